@@ -1,0 +1,7 @@
+// Complex numbers as num_complex has them, and rows of them in flat slices.
+pub mod rows;
+pub mod value;
+
+pub use rows::get;
+pub use rows::put;
+pub use value::Complex;

@@ -1,0 +1,13 @@
+-- Laws that the proofs of `float` share and that the crates above cite.
+pub mod Exactly
+pub mod Compared
+pub mod Wholes
+pub mod Cuts
+pub mod Patterns
+pub mod Narrowing
+pub mod Ordered
+pub mod Squares
+pub mod Roots
+pub mod Value
+pub mod Meaning
+mod Examples

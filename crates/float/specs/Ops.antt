@@ -1,0 +1,62 @@
+-- The single operations of IEEE 754 at 64 bits, the f64 nearest to a fraction of whole numbers, and the small literals of the code. Definitions only, and what each literal is.
+use Prim.Native.Nat.{ℕ}
+use mathlib.Core.Path.{_≡_, refl}
+use mathlib.Core.Bool.{Bool, true, false, cond}
+use lib.IntN.{pos}
+use lib.Ieee.{Float, nan, inf, fin, binary64, add, sub, mul, div, lt, isNan, ofInt, ofBits, round}
+
+infixl 6 _⊕_
+abbrev pub _⊕_ : Float → Float → Float
+x ⊕ y = add binary64 x y
+
+infixl 6 _⊖_
+abbrev pub _⊖_ : Float → Float → Float
+x ⊖ y = sub binary64 x y
+
+infixl 7 _⊗_
+abbrev pub _⊗_ : Float → Float → Float
+x ⊗ y = mul binary64 x y
+
+infixl 7 _⊘_
+abbrev pub _⊘_ : Float → Float → Float
+x ⊘ y = div binary64 x y
+
+-- the f64 that a whole number is, rounded where it has too many digits
+abbrev pub of : ℕ → Float
+of n = ofInt binary64 (pos n)
+
+-- the f64 nearest to a / c
+unfoldable pub fraction : ℕ → ℕ → Float
+fraction a c = round binary64 false a c
+
+-- |x|: the sign is dropped
+unfoldable pub absOf : Float → Float
+absOf nan = nan
+absOf (inf s) = inf false
+absOf (fin s m e) = fin false m e
+
+-- Rust's `a.max(b)`: the other one where one is a NaN
+unfoldable pub maxOf : Float → Float → Float
+maxOf a b = cond (isNan a) b (cond (lt a b) b a)
+
+-- A literal of the code is its bit pattern; `literals` says which number each is.
+abbrev pub bits : ℕ → Float
+bits n = ofBits binary64 n
+
+abbrev pub zero : Float
+zero = bits 0
+
+abbrev pub minus-zero : Float
+minus-zero = bits 0x8000_0000_0000_0000
+
+abbrev pub half : Float
+half = bits 0x3fe0_0000_0000_0000
+
+abbrev pub one : Float
+one = bits 0x3ff0_0000_0000_0000
+
+abbrev pub two : Float
+two = bits 0x4000_0000_0000_0000
+
+abbrev pub eight : Float
+eight = bits 0x4020_0000_0000_0000

@@ -1,0 +1,27 @@
+-- What the functions that `sqrt` is made of ensure, in whole numbers. Definitions only.
+use mathlib.Core.Path.{_≡_}
+use Prim.Native.Nat.{ℕ, _+_, _-_, _*_, _/_, _%_, _^_, _≤_, _<_}
+use mathlib.Core.Bool.{cond}
+use lib.Dec.{ltb}
+
+-- c is the whole number nearest to the root of p: (2 * c - 1) ^ 2 < 4 * p < (2 * c + 1) ^ 2. (No root is half-way between two whole numbers.)
+pub record NearRoot (p c : ℕ) : Type 0 where
+  pub above : c * c < p + c
+  pub below : p ≤ c * c + c
+
+-- q is the whole part of the root of n, and r what is left over
+pub record Rooted (n q r : ℕ) : Type 0 where
+  pub whole : q * q + r ≡ n
+  pub left : r ≤ 2 * q
+
+-- the number of smallest values that a bit pattern with the sign clear stands for, below the infinity's
+unfoldable pub counted : ℕ → ℕ
+counted b = cond (ltb b (2 ^ 52)) b ((2 ^ 52 + b % 2 ^ 52) * 2 ^ (b / 2 ^ 52 - 1))
+
+-- n is written m * 2 ^ e with an m of 53 digits
+pub record Scaled (n m e : ℕ) : Type 0 where
+  pub value : m * 2 ^ e ≡ n
+  pub least : 2 ^ 52 ≤ m
+  pub most : m < 2 ^ 53
+  pub floor : 1022 ≤ e
+  pub ceil : e ≤ 3119

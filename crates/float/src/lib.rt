@@ -1,0 +1,11 @@
+// Rust's functions of f64, total, against the logic's account of IEEE 754.
+pub mod root;
+pub mod single;
+pub mod whole;
+
+pub use root::sqrt;
+pub use single::narrow;
+pub use whole::ceil;
+pub use whole::floor;
+pub use whole::round;
+pub use whole::to_whole;
