@@ -2,20 +2,21 @@
 -- Assumes nothing.
 use mathlib.Core.Path.{_≡_, refl, sym, ap, _∙_, subst}
 use mathlib.Core.Logic.{inl, inr}
-use Prim.Native.Nat.{ℕ, zero, suc, _+_, _-_, _*_, _/_, _%_, _^_, _≤_, _<_, compare}
-use native.Mathlib.Nat.{le-trans, le-of-eq, lt-of-lt-of-le, lt-of-le-of-lt, lt-of-not-le, not-le-of-lt, mul-pos, mul-one, one-mul, mul-comm, mul-assoc, mul-right-comm, mul-sub, mul-le-mul-right, mul-lt-mul-of-pos-right, eq-of-mul-eq-mul-right, add-mul-div-right, div-lt-iff-lt-mul, le-div-iff-mul-le, div-mul-le-self}
+use Prim.Native.Nat.{ℕ, zero, suc, _+_, _-_, _*_, _/_, _%_, _^_, _≤_, _<_, compare, Ordering, Ordering·lt, Ordering·eq, Ordering·gt}
+use native.Mathlib.Nat.{le-trans, le-of-eq, le-of-lt, lt-of-lt-of-le, lt-of-le-of-lt, lt-of-not-le, not-le-of-lt, mul-pos, mul-one, one-mul, mul-comm, mul-assoc, mul-right-comm, mul-sub, mul-le-mul-right, mul-lt-mul-of-pos-right, eq-of-mul-eq-mul-right, add-mul-div-right, add-mul-mod-self-right, div-lt-iff-lt-mul, le-div-iff-mul-le, div-mul-le-self}
 use native.Mathlib.Omega.{arith}
 use mathlib.Core.Bool.{Bool, true, false, not, cond, true≢false}
 use lib.IntN.{ℤ, pos}
 use lib.Dec.{T, ltb, ltb→lt, lit<, lit≤}
 use lib.Pow.{pow-pos, pow-mono, shl-lt}
-use lib.Ieee.{Float, nan, inf, fin, Format, binary64, prec, emax, low, up, down, size, units, round, sum, add, sub, lt, ofInt, toUnsigned, inUnsigned}
+use lib.Ieee.{Float, nan, inf, fin, Format, binary64, prec, emax, low, up, down, size, nearest, units, round, sum, add, sub, lt, ofInt, toUnsigned, inUnsigned}
 use lib.Ieee.Digits.{size-lt, size-le}
 use lib.Ieee.Fits.{core, round-is, down-pos, nearest-le}
 use lib.Ieee.Exact.{HasValue, units-val}
 use lib.Ieee.Nearest.{closest, closest-same, nearest-ge}
 use lib.Ieee.Scale.{round-same}
 use lib.Ieee.Back.{round-whole, unsigned-back}
+use Rattle.float.proofs.Patterns.{Cmp, cmp}
 use Rattle.float.proofs.Compared.{lt→cross, nlt→cross, unsigned-value}
 use Rattle.float.proofs.Wholes.{nought, limit, small, in-float}
 
@@ -106,8 +107,17 @@ whole : (n : ℕ) → round binary64 false n 1 ≡ ofInt binary64 (pos n)
 unfolding ofInt
 whole n = refl
 
+-- one more than the whole part only where the fraction is a half at least
+half-up : (w r c : ℕ) (o : Ordering) → Cmp o (r * 2) c → nearest w o ≡ suc w → c ≤ r * 2
+half-up w r c Ordering·lt h e = absurd (never w e)
+  where
+    never : (w : ℕ) → w ≡ suc w → ⊥
+    never w e = omega arith
+half-up w r c Ordering·eq h e = le-of-eq (sym h)
+half-up w r c Ordering·gt h e = le-of-lt h
+
 pub rounded-whole : (m : ℕ) (e : ℤ) → m * up e < 2 ^ 52 * down e
-    → (K : ℕ) × (bounced (fin false m e) ≡ ofInt binary64 (pos K)) × (m * up e / down e ≤ K) × (K ≤ suc (m * up e / down e))
+    → (K : ℕ) × (bounced (fin false m e) ≡ ofInt binary64 (pos K)) × (m * up e / down e ≤ K) × (K ≤ suc (m * up e / down e)) × (K ≡ suc (m * up e / down e) → down e ≤ m * up e % down e * 2)
 rounded-whole m e h =
     let a = m * up e in
     let c = down e in
@@ -117,7 +127,7 @@ rounded-whole m e h =
     let q : A / c ≡ a / c + 2 ^ 52 = add-mul-div-right a (2 ^ 52) C in
     let b = closest-bounds A c in
     let v : HasValue (add binary64 (fin false m e) limit) false B 1 = subst (λ (z : Float). HasValue z false B 1) (sym (plus m e)) (round-at-one A c C (low-end a (2 ^ 52 * c)) (high-end a c h)) in
-    (B - 2 ^ 52, less (add binary64 (fin false m e) limit) B v (enough (A / c) (a / c) B q (b .0)) ∙ whole (B - 2 ^ 52), at-least (A / c) (a / c) B q (b .0), at-most (A / c) (a / c) B q (b .1))
+    (B - 2 ^ 52, less (add binary64 (fin false m e) limit) B v (enough (A / c) (a / c) B q (b .0)) ∙ whole (B - 2 ^ 52), at-least (A / c) (a / c) B q (b .0), at-most (A / c) (a / c) B q (b .1), λ k. subst (λ (r : ℕ). c ≤ r * 2) (add-mul-mod-self-right a (2 ^ 52) c) (half-up (A / c) (A % c) c (compare (A % c * 2) c) (cmp (A % c * 2) c) (up-one (A / c) (a / c) B q k)))
   where
     low-end : (a p : ℕ) → p ≤ a + p
     low-end a p = omega arith
@@ -127,6 +137,9 @@ rounded-whole m e h =
 
     enough : (x q B : ℕ) → x ≡ q + 2 ^ 52 → x ≤ B → 2 ^ 52 ≤ B
     enough x q B e h = omega arith
+
+    up-one : (x q B : ℕ) → x ≡ q + 2 ^ 52 → B - 2 ^ 52 ≡ suc q → B ≡ suc x
+    up-one x q B e h = omega arith
 
     at-least : (x q B : ℕ) → x ≡ q + 2 ^ 52 → x ≤ B → q ≤ B - 2 ^ 52
     at-least x q B e h = omega arith
@@ -140,7 +153,7 @@ pub record Bounced (x : Float) : Type 0 where
   pub over : T (lt x (bounced x)) → toUnsigned 64 (bounced x) ≡ toUnsigned 64 x + 1
   pub exact : T (not (lt x (bounced x))) → toUnsigned 64 (bounced x) ≡ toUnsigned 64 x
 
-value-of : (n : ℕ) → n ≤ 2 ^ 53 → HasValue (ofInt binary64 (pos n)) false n 1
+pub value-of : (n : ℕ) → n ≤ 2 ^ 53 → HasValue (ofInt binary64 (pos n)) false n 1
 unfolding ofInt
 value-of n h = round-whole binary64 false n h
 

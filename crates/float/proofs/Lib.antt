@@ -2,7 +2,9 @@
 pub mod Exactly
 pub mod Compared
 pub mod Wholes
+pub mod Sums
 pub mod Cuts
+pub mod Remainders
 pub mod Patterns
 pub mod Narrowing
 pub mod Ordered

@@ -1,5 +1,6 @@
 -- What the contracts of `float` cite.
 pub mod Ops
+pub mod Rem
 pub mod Whole
 pub mod Narrow
 pub mod Sqrt

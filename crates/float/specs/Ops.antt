@@ -3,7 +3,7 @@ use Prim.Native.Nat.{ℕ}
 use mathlib.Core.Path.{_≡_, refl}
 use mathlib.Core.Bool.{Bool, true, false, cond}
 use lib.IntN.{pos}
-use lib.Ieee.{Float, nan, inf, fin, binary64, add, sub, mul, div, lt, isNan, ofInt, ofBits, round}
+use lib.Ieee.{Float, nan, inf, fin, binary64, add, sub, mul, div, neg, lt, isNan, ofInt, ofBits, round}
 
 infixl 6 _⊕_
 abbrev pub _⊕_ : Float → Float → Float
@@ -60,3 +60,7 @@ two = bits 0x4000_0000_0000_0000
 
 abbrev pub eight : Float
 eight = bits 0x4020_0000_0000_0000
+
+pub literals : (zero ≡ of 0) × (minus-zero ≡ neg zero) × (half ≡ fraction 1 2) × (one ≡ of 1) × (two ≡ of 2) × (eight ≡ of 8)
+unfolding ofBits ofInt neg fraction
+literals = (refl, refl, refl, refl, refl, refl)

@@ -1,11 +1,18 @@
 // Rust's functions of f64, total, against the logic's account of IEEE 754.
+pub mod compare;
+pub mod remainder;
 pub mod root;
 pub mod single;
 pub mod whole;
 
+pub use compare::abs;
+pub use compare::max;
+pub use remainder::rem_euclid;
+pub use remainder::rem_one;
 pub use root::sqrt;
 pub use single::narrow;
 pub use whole::ceil;
+pub use whole::exact;
 pub use whole::floor;
 pub use whole::round;
 pub use whole::to_whole;
