@@ -17,8 +17,8 @@ use lib.Ieee.Nearest.{closest, closest-same, nearest-ge}
 use lib.Ieee.Scale.{round-same}
 use lib.Ieee.Back.{round-whole, unsigned-back}
 use Rattle.float.proofs.Patterns.{Cmp, cmp}
-use Rattle.float.proofs.Compared.{lt→cross, nlt→cross, unsigned-value}
-use Rattle.float.proofs.Wholes.{nought, limit, small, in-float}
+use Rattle.float.proofs.Compared.{nought, lt→cross, nlt→cross, unsigned-value}
+use Rattle.float.proofs.Wholes.{limit, small, in-float}
 
 -- ---- one value as two fractions
 pub revalue : (x : Float) (s : Bool) (a c b d : ℕ) → 0 < c → a * d ≡ b * c → HasValue x s a c → HasValue x s b d

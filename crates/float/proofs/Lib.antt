@@ -5,6 +5,8 @@ pub mod Wholes
 pub mod Sums
 pub mod Cuts
 pub mod Remainders
+pub mod Counts
+pub mod Monotone
 pub mod Patterns
 pub mod Narrowing
 pub mod Ordered

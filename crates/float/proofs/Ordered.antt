@@ -17,16 +17,9 @@ use lib.Ieee.Exact.{HasValue, round-exact}
 use lib.Ieee.Order.{round-mono}
 use lib.Ieee.Nearest.{div-mono}
 use lib.Ieee.Positive.{num, den, positive, den-pos, le→cross}
-use Rattle.float.proofs.Compared.{lt→cross}
+use Rattle.float.proofs.Compared.{nought, lt→cross, lt-or-eq}
 
 -- ---- `toUnsigned` keeps the order
-or-split : (a b : Bool) → T (a || b) → T a ⊎ T b
-or-split true b t = inl tt
-or-split false b t = inr t
-
-lt-or-eq : (a b : ℕ) → T (ltb a b || (eqb a b && true)) → a ≤ b
-lt-or-eq a b t = elim (or-split (ltb a b) (eqb a b && true) t) [ inl u ↦ le-of-lt (ltb→lt a b u) | inr u ↦ le-of-eq (eqb→eq a b (and-l (eqb a b) true u)) ]
-
 min-mono : (a b c : ℕ) → a ≤ b → min a c ≤ min b c
 min-mono a b c h = omega arith
 
@@ -71,9 +64,6 @@ unsigned-mono w (fin false m e) (fin false n d) h =
     min-mono (m * up e / down e) (n * up d / down d) (2 ^ w - 1) (div-mono (m * up e) (down e) (n * up d) (down d) (down-pos e) (down-pos d) (lt-or-eq (m * up e * down d) (n * up d * down e) h))
 
 -- ---- a rounded value above zero has its sign clear and comes of a fraction above zero
-abbrev nought : Float
-nought = fin false 0 (pos 0)
-
 nought-value : HasValue nought false 0 1
 nought-value = (refl, refl)
 

@@ -7,7 +7,7 @@ use native.Mathlib.Nat.{le-trans, le-of-eq, le-of-lt, lt-of-lt-of-le, lt-of-le-o
 use native.Mathlib.Omega.{arith}
 use mathlib.Core.Bool.{Bool, true, false, not, cond, true≢false}
 use lib.IntN.{ℤ, pos, negsuc}
-use lib.Dec.{T, ltb, eqb, ltb→lt, lt→ltb, eqb·suc-zero, T-not, not-T, lit<}
+use lib.Dec.{T, ltb, eqb, ltb→lt, lt→ltb, T-not, not-T, lit<}
 use lib.Pow.{pow-add, pow-pos, pow-mono, shl-lt}
 use lib.Ieee.{Float, nan, inf, fin, Format, binary64, prec, emax, low, up, down, round, sum, add, neg, sub, rem, lt, fits, ofBits, ofInt}
 use lib.Ieee.Bits.{cond-no, is-true, is-false}
@@ -18,9 +18,9 @@ use lib.Ieee.Scale.{round-same}
 use Rattle.float.specs.Ops.{absOf, one}
 use Rattle.float.specs.Rem.{remEuclidOf, raised}
 use Rattle.float.proofs.Exactly.{fits-says, zero-exp, pow-le→le, round-self, neg-round}
-use Rattle.float.proofs.Compared.{no, lt→cross, under-power}
-use Rattle.float.proofs.Wholes.{nought, limit}
-use Rattle.float.proofs.Sums.{neg-value, add-over, sub-over, sum-less, sum-more, under-zero, not-under, over-zero, not-over-minus, none-under}
+use Rattle.float.proofs.Compared.{nought, lt→cross, under-power}
+use Rattle.float.proofs.Wholes.{limit}
+use Rattle.float.proofs.Sums.{cond-nil, neg-value, add-over, sub-over, sum-less, sum-more, under-zero, not-under, over-zero, not-over-minus, none-under}
 use Rattle.float.proofs.Cuts.{revalue, bounced, rounded-whole, value-of}
 
 -- ---- |x|
@@ -78,10 +78,6 @@ abs-other (fin false m e) t h = plus-zero m e (none-above m e h) t
 pub fits-parts : (f : Format) (s : Bool) (m : ℕ) (e : ℤ) → T (fits f (fin s m e)) → (m < 2 ^ prec f) × (down e ≤ 2 ^ low f)
 fits-parts f s zero e t = (pow-pos (prec f), subst (λ (z : ℤ). down z ≤ 2 ^ low f) (sym (zero-exp f s e t)) (pow-pos (low f)))
 fits-parts f s (suc m) e t = let w = fits-says f s m e t in (w .1, w .2)
-
-cond-nil : (n : ℕ) (x y : Float) → 0 < n → cond (eqb n 0) x y ≡ y
-cond-nil zero x y h = absurd (lt-irrefl 0 h)
-cond-nil (suc n) x y h = cond-no (eqb (suc n) 0) x y (no (eqb·suc-zero n))
 
 pub rem-small : (f : Format) (x y : Float) → T (fits f x) → T (lt (absOf x) (absOf y)) → x ≡ rem f x y
 unfolding rem lt absOf

@@ -1,28 +1,23 @@
--- Sums and differences of values that are known as fractions (`HasValue x s a c`: x is ± a / c): `add-over`, `sub-over` turn them into `sum` of the numerators over the one denominator, and `sum-same`, `sum-less`, `sum-more`, `sum-rest` say what that is.
+-- The four operations on values that are known as fractions (`HasValue x s a c`: x is ± a / c): `add-over`, `sub-over` turn them into `sum` of the numerators over the one denominator, and `sum-plus`, `sum-less`, `sum-more` say what that is; `mul-over`, `div-over`.
 -- Where a value stands to zero: `under-zero`, `over-zero`, `not-under`, `not-over`. Over any format. Assumes nothing.
 use mathlib.Core.Path.{_≡_, refl, sym, ap, _∙_, subst}
 use Prim.Native.Nat.{ℕ, zero, suc, _+_, _-_, _*_, _≤_, _<_}
-use native.Mathlib.Nat.{le-of-eq, lt-of-lt-of-le, lt-of-le-of-lt, lt-of-not-le, not-le-of-lt, zero-mul, mul-one, one-mul, add-mul, mul-sub, mul-pos, mul-comm, mul-assoc, mul-right-comm, mul-lt-mul-of-pos-right, lt-of-mul-lt-mul-right, eq-of-mul-eq-mul-right}
+use native.Mathlib.Nat.{lt-irrefl, zero-lt-suc, mul-mul-mul-comm, le-of-eq, lt-of-lt-of-le, lt-of-le-of-lt, lt-of-not-le, not-le-of-lt, zero-mul, mul-one, one-mul, add-mul, mul-sub, mul-pos, mul-comm, mul-assoc, mul-right-comm, mul-lt-mul-of-pos-right, lt-of-mul-lt-mul-right, eq-of-mul-eq-mul-right}
 use native.Mathlib.Omega.{arith}
 use mathlib.Core.Bool.{Bool, true, false, not, _&&_, Bool·beq, cond, true≢false}
 use lib.IntN.{ℤ, pos, negsuc}
-use lib.Dec.{T, ltb, ltb→lt, lt→ltb, not-T, lit<}
+use lib.Dec.{T, ltb, eqb, ltb→lt, lt→ltb, eqb·suc-zero}
 use lib.Arith.{le→nltb}
-use lib.Ieee.{Float, nan, inf, fin, Format, up, down, round, sum, add, neg, sub, lt}
-use lib.Ieee.Bits.{is-true, is-false}
+use lib.Ieee.{Float, nan, inf, fin, Format, up, down, round, unlike, sum, add, neg, sub, mul, div, lt}
+use lib.Ieee.Bits.{is-true, is-false, cond-no}
 use lib.Ieee.Fits.{up-pos, down-pos}
 use lib.Ieee.Exact.{HasValue}
 use lib.Ieee.Scale.{round-same}
+use Rattle.float.proofs.Compared.{nought, no, same-truth}
 
 -- ---- two pairs of numbers in the same ratio are in the same order
 ltb-by : (a b a' b' : ℕ) → (a < b → a' < b') → (a' < b' → a < b) → ltb a b ≡ ltb a' b'
-ltb-by a b a' b' h k = go (ltb a b) (ltb a' b') (λ t. lt→ltb a' b' (h (ltb→lt a b t))) (λ t. lt→ltb a b (k (ltb→lt a' b' t)))
-  where
-    go : (p q : Bool) → (T p → T q) → (T q → T p) → p ≡ q
-    go true true h k = refl
-    go true false h k = absurd (h tt)
-    go false true h k = absurd (k tt)
-    go false false h k = refl
+ltb-by a b a' b' h k = same-truth (ltb a b) (ltb a' b') (λ t. lt→ltb a' b' (h (ltb→lt a b t))) (λ t. lt→ltb a b (k (ltb→lt a' b' t)))
 
 ratio-lt : (a b c a' b' c' : ℕ) → 0 < c → 0 < c' → a * c' ≡ a' * c → b * c' ≡ b' * c → a < b → a' < b'
 ratio-lt a b c a' b' c' C C' p q h = lt-of-mul-lt-mul-right c (lt-of-le-of-lt (le-of-eq (sym p)) (lt-of-lt-of-le (mul-lt-mul-of-pos-right h C') (le-of-eq q)))
@@ -71,6 +66,43 @@ pub sub-over : (f : Format) (x y : Float) (s t : Bool) (a b c : ℕ) → 0 < c �
 unfolding sub
 sub-over f x y s t a b c C v w = add-over f x (neg y) s (not t) a b c C v (neg-value y t b c w)
 
+-- ---- products and quotients
+pub mul-over : (f : Format) (x y : Float) (s t : Bool) (a c b d : ℕ) → 0 < c → 0 < d → HasValue x s a c → HasValue y t b d → mul f x y ≡ round f (unlike s t) (a * b) (c * d)
+unfolding mul
+mul-over f nan y s t a c b d C D v w = absurd v
+mul-over f (inf u) y s t a c b d C D v w = absurd v
+mul-over f (fin u m e) nan s t a c b d C D v w = absurd w
+mul-over f (fin u m e) (inf o) s t a c b d C D v w = absurd w
+mul-over f (fin u m e) (fin o n g) s t a c b d C D v w =
+    (λ i. round f (unlike (v .0 i) (w .0 i)) (m * up e * (n * up g)) (down e * down g))
+    ∙ round-same f (unlike s t) (m * up e * (n * up g)) (down e * down g) (a * b) (c * d) (mul-pos (down-pos e) (down-pos g)) (mul-pos C D)
+    (mul-mul-mul-comm (m * up e) (n * up g) c d ∙ (λ i. v .1 i * w .1 i) ∙ mul-mul-mul-comm a (down e) b (down g))
+
+pub cond-nil : (n : ℕ) (x y : Float) → 0 < n → cond (eqb n 0) x y ≡ y
+cond-nil zero x y h = absurd (lt-irrefl 0 h)
+cond-nil (suc n) x y h = cond-no (eqb (suc n) 0) x y (no (eqb·suc-zero n))
+
+some-digits : (n u d b c : ℕ) → 0 < d → n * u * c ≡ b * d → 0 < b → 0 < n
+some-digits zero u d b c D e h = absurd (lt-irrefl 0 (subst (λ (z : ℕ). 0 < z) (sym e ∙ ap (λ (z : ℕ). z * c) (zero-mul u) ∙ zero-mul c) (mul-pos h D)))
+some-digits (suc n) u d b c D e h = zero-lt-suc n
+
+pub div-over : (f : Format) (x y : Float) (s t : Bool) (a c b d : ℕ) → 0 < c → 0 < d → 0 < b → HasValue x s a c → HasValue y t b d → div f x y ≡ round f (unlike s t) (a * d) (b * c)
+unfolding div
+div-over f nan y s t a c b d C D B v w = absurd v
+div-over f (inf u) y s t a c b d C D B v w = absurd v
+div-over f (fin u m e) nan s t a c b d C D B v w = absurd w
+div-over f (fin u m e) (inf o) s t a c b d C D B v w = absurd w
+div-over f (fin u m e) (fin o n g) s t a c b d C D B v w =
+    let N : 0 < n = some-digits n (up g) (down g) b d (down-pos g) (w .1) B in
+    cond-nil n (cond (eqb m 0) nan (inf (unlike u o))) (round f (unlike u o) (m * up e * down g) (n * up g * down e)) N
+    ∙ (λ i. round f (unlike (v .0 i) (w .0 i)) (m * up e * down g) (n * up g * down e))
+    ∙ round-same f (unlike s t) (m * up e * down g) (n * up g * down e) (a * d) (b * c) (mul-pos (mul-pos N (up-pos g)) (down-pos e)) (mul-pos B C)
+    (cross (m * up e) (down g) b c a (down e) d (n * up g) (v .1) (w .1))
+  where
+    cross : (x p b c a q d y : ℕ) → x * c ≡ a * q → y * d ≡ b * p → x * p * (b * c) ≡ a * d * (y * q)
+    cross x p b c a q d y h k =
+        mul-mul-mul-comm x p b c ∙ ap (λ (z : ℕ). x * b * z) (mul-comm p c) ∙ mul-mul-mul-comm x b c p ∙ (λ i. h i * sym k i) ∙ ap (λ (z : ℕ). a * q * z) (mul-comm y d) ∙ mul-mul-mul-comm a q d y ∙ ap (λ (z : ℕ). a * d * z) (mul-comm q y)
+
 -- ---- `sum` of two signs: the larger one's, and plus for nothing left
 pub sum-plus : (f : Format) (s : Bool) (a b c : ℕ) → sum f s a s b c ≡ round f s (a + b) c
 unfolding sum
@@ -87,9 +119,6 @@ sum-more f true a b c h = ap (λ (t : Bool). cond t (round f false (b - a) c) (r
 sum-more f false a b c h = ap (λ (t : Bool). cond t (round f true (b - a) c) (round f (false && ltb b a) (a - b) c)) (is-true (ltb a b) (lt→ltb a b h))
 
 -- ---- above and below zero
-abbrev nought : Float
-nought = fin false 0 (pos 0)
-
 size-pos : (m u d a c : ℕ) → 0 < d → m * u * c ≡ a * d → 0 < a → 0 < m * u
 size-pos m u d a c D e h = lt-of-not-le (λ (g : m * u ≤ 0). not-le-of-lt (mul-pos h D) (none (m * u) c (a * d) g e))
   where

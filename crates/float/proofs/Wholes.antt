@@ -14,10 +14,7 @@ use lib.Ieee.Scale.{round-same}
 use lib.Ieee.Back.{round-whole}
 use Rattle.float.specs.Whole.{cut, lifted, halfUp, wholeBy, floorOf, ceilOf, roundOf}
 use Rattle.float.proofs.Exactly.{fits-says, zero-exp, exponent, round-self, neg-round}
-use Rattle.float.proofs.Compared.{lt→cross, nlt→cross, under-power, over-power, in-range, unsigned-value}
-
-abbrev pub nought : Float
-nought = fin false 0 (pos 0)
+use Rattle.float.proofs.Compared.{nought, lt→cross, nlt→cross, under-power, over-power, in-range, unsigned-value}
 
 abbrev pub limit : Float
 limit = fin false 1 (pos 52)

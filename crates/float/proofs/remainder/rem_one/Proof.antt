@@ -2,8 +2,8 @@
 use borrow.Author.Needs.{needs}
 use lib.Dec.{T}
 use lib.Ieee.{ofBits, neg, lt}
-use Rattle.float.proofs.Compared.{yes, no}
-use Rattle.float.proofs.Wholes.{nought, limit}
+use Rattle.float.proofs.Compared.{nought, yes, no}
+use Rattle.float.proofs.Wholes.{limit}
 use Rattle.float.proofs.Remainders.{Above, Below, above-is, below-is}
 use Rattle.float.proofs.remainder.rem_one.Statement.{statement}
 use Rattle.float.proofs.remainder.rem_one.Tie as tie

@@ -4,8 +4,8 @@ use mathlib.Core.Bool.{not}
 use lib.Dec.{T}
 use lib.Ieee.{ofBits, neg, fits, lt, binary64}
 use Rattle.float.specs.Whole.{cut, lifted, halfUp, ceilOf}
-use Rattle.float.proofs.Compared.{yes, no}
-use Rattle.float.proofs.Wholes.{nought, neg-above, neg-whole, ceil-above, ceil-below, ceil-none}
+use Rattle.float.proofs.Compared.{nought, yes, no}
+use Rattle.float.proofs.Wholes.{neg-above, neg-whole, ceil-above, ceil-below, ceil-none}
 use Rattle.float.proofs.whole.ceil.Statement.{statement}
 use Rattle.float.proofs.whole.ceil.Tie as tie
 

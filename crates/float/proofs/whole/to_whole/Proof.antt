@@ -2,8 +2,7 @@
 use lib.Dec.{T}
 use lib.Ieee.{ofBits, lt}
 use borrow.Author.Needs.{needs}
-use Rattle.float.proofs.Compared.{yes, no, above-minus, unsigned-top, unsigned-none}
-use Rattle.float.proofs.Wholes.{nought}
+use Rattle.float.proofs.Compared.{nought, yes, no, above-minus, unsigned-top, unsigned-none}
 use Rattle.float.proofs.whole.to_whole.Statement.{statement}
 use Rattle.float.proofs.whole.to_whole.Tie as tie
 

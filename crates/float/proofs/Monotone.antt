@@ -1,0 +1,379 @@
+-- Order. `le-fin`, `fin-le`: what `<=` of two finite values says of their signs and sizes. `neg-le`: a minus turns it round. `le-trans`, `lt-le`, `not-lt-le`: between the tests.
+-- `floor-mono`, `ceil-mono`, `round-mono`: x at most y has floor, ceil and round of x at most those of y; `whole-keeps` and its three cases: a whole number stays. With infinities and minus signs among the values. Assumes nothing.
+use mathlib.Core.Path.{_≡_, refl, sym, ap, _∙_, subst}
+use mathlib.Core.Logic.{_⊎_, inl, inr}
+use Prim.Native.Nat.{ℕ, zero, suc, _+_, _-_, _*_, _/_, _%_, _^_, _≤_, _<_, zero-le}
+use native.Mathlib.Nat.{suc-mul, le-trans, le-of-eq, le-of-lt, le-refl, lt-of-lt-of-le, lt-of-le-of-lt, lt-irrefl, lt-of-not-le, not-le-of-lt, le-of-suc-le-suc, eq-zero-or-pos, eq-or-lt-of-le, zero-mul, mul-one, one-mul, mul-pos, mul-comm, mul-assoc, mul-right-comm, mul-le-mul-left, mul-le-mul-right, lt-of-mul-lt-mul-right, mul-lt-mul-of-pos-right, le-div-iff-mul-le, div-lt-iff-lt-mul, div-mul-le-self, mul-div-cancel, div-eq-of-lt-le, div-eq-of-lt, add-mul, eq-of-mul-eq-mul-right}
+use native.Mathlib.Numerals.{add-one}
+use native.Mathlib.Omega.{arith}
+use mathlib.Core.Bool.{Bool, true, false, not, _&&_, _||_, Bool·beq, cond, true≢false}
+use lib.IntN.{ℤ, pos}
+use lib.Dec.{T, ltb, eqb, ltb→lt, lt→ltb, nltb→le, eqb→eq, not-T, T-not, lit<}
+use lib.Arith.{le→nltb}
+use lib.Pow.{pow-pos}
+use lib.Ieee.{Float, nan, inf, fin, Format, binary64, prec, emax, low, up, down, below, level, odd, units, round, neg, lt, eq, le, ofInt}
+use lib.Ieee.Fits.{round-is as round-core, up-pos, down-pos, and-i, and-l, and-r, eq→eqb}
+use lib.Ieee.Exact.{HasValue, units-val, odd-sign}
+use lib.Ieee.Nearest.{div-mono}
+use lib.Ieee.Order.{round-mono as rounds-up}
+use lib.Ieee.Positive.{through}
+use Rattle.float.specs.Whole.{cut, lifted, halfUp, wholeBy, floorOf, ceilOf, roundOf}
+use Rattle.float.proofs.Exactly.{neg-round}
+use Rattle.float.proofs.Compared.{nought, no, or-split, lt-or-eq}
+use Rattle.float.proofs.Counts.{whole-is, whole-value}
+
+-- ---- ± a at most ± b
+abbrev pub Most : Bool → ℕ → Bool → ℕ → Type 0
+Most false a false b = a ≤ b
+Most false a true b = (a ≡ 0) × (b ≡ 0)
+Most true a false b = Unit {0}
+Most true a true b = b ≤ a
+
+or-l : (a b : Bool) → T a → T (a || b)
+or-l true b t = tt
+or-l false b t = absurd t
+
+or-r : (a b : Bool) → T b → T (a || b)
+or-r true b t = tt
+or-r false b t = t
+
+most : (s t : Bool) (a b : ℕ) → T (below s a t b || level s a t b) → Most s a t b
+most false false a b h = lt-or-eq a b h
+most false true a b h = let z : a ≡ 0 = eqb→eq a 0 (and-r (eqb a b) (eqb a 0) h) in (z, sym (eqb→eq a b (and-l (eqb a b) (eqb a 0) h)) ∙ z)
+most true false a b h = tt
+most true true a b h = elim (or-split (ltb b a) (eqb a b && true) h) [ inl u ↦ le-of-lt (ltb→lt b a u) | inr u ↦ le-of-eq (sym (eqb→eq a b (and-l (eqb a b) true u))) ]
+
+at-most : (s t : Bool) (a b : ℕ) → Most s a t b → T (below s a t b || level s a t b)
+at-most false false a b h =
+    elim (eq-or-lt-of-le h) [
+      | inl e ↦ or-r (ltb a b) (eqb a b && true) (and-i (eqb a b) true (eq→eqb e) tt)
+      | inr l ↦ or-l (ltb a b) (eqb a b && true) (lt→ltb a b l)
+    ]
+at-most false true a b h = and-i (eqb a b) (eqb a 0) (eq→eqb (h .0 ∙ sym (h .1))) (eq→eqb (h .0))
+at-most true false a b h =
+    elim (eq-zero-or-pos (a + b)) [
+      | inl z ↦ or-r (ltb 0 (a + b)) (eqb a b && eqb a 0) (and-i (eqb a b) (eqb a 0) (eq→eqb (both a b z)) (eq→eqb (left a b z)))
+      | inr l ↦ or-l (ltb 0 (a + b)) (eqb a b && eqb a 0) (lt→ltb 0 (a + b) l)
+    ]
+  where
+    both : (a b : ℕ) → a + b ≡ 0 → a ≡ b
+    both a b h = omega arith
+
+    left : (a b : ℕ) → a + b ≡ 0 → a ≡ 0
+    left a b h = omega arith
+at-most true true a b h =
+    elim (eq-or-lt-of-le h) [
+      | inl e ↦ or-r (ltb b a) (eqb a b && true) (and-i (eqb a b) true (eq→eqb (sym e)) tt)
+      | inr l ↦ or-l (ltb b a) (eqb a b && true) (lt→ltb b a l)
+    ]
+
+pub le-fin : (s : Bool) (m : ℕ) (e : ℤ) (t : Bool) (n : ℕ) (d : ℤ) → T (le (fin s m e) (fin t n d)) → Most s (m * up e * down d) t (n * up d * down e)
+unfolding le
+le-fin s m e t n d h = most s t (m * up e * down d) (n * up d * down e) h
+
+pub fin-le : (s : Bool) (m : ℕ) (e : ℤ) (t : Bool) (n : ℕ) (d : ℤ) → Most s (m * up e * down d) t (n * up d * down e) → T (le (fin s m e) (fin t n d))
+unfolding le
+fin-le s m e t n d h = at-most s t (m * up e * down d) (n * up d * down e) h
+
+-- ---- a minus turns it round
+turned : (s t : Bool) (a b : ℕ) → Most s a t b → Most (not t) b (not s) a
+turned false false a b h = h
+turned false true a b h = (h .1, h .0)
+turned true false a b h = tt
+turned true true a b h = h
+
+pub neg-le : (x y : Float) → T (le x y) → T (le (neg y) (neg x))
+unfolding le neg
+neg-le nan y h = absurd h
+neg-le (inf s) nan h = absurd (nothing h)
+  where
+    nothing : T (false || false) → ⊥
+    nothing t = t
+neg-le (inf true) (inf true) h = tt
+neg-le (inf true) (inf false) h = tt
+neg-le (inf false) (inf true) h = absurd h
+neg-le (inf false) (inf false) h = tt
+neg-le (inf true) (fin t n d) h = tt
+neg-le (inf false) (fin t n d) h = absurd h
+neg-le (fin s m e) nan h = absurd h
+neg-le (fin s m e) (inf true) h = absurd h
+neg-le (fin s m e) (inf false) h = tt
+neg-le (fin s m e) (fin t n d) h = at-most (not t) (not s) (n * up d * down e) (m * up e * down d) (turned s t (m * up e * down d) (n * up d * down e) (most s t (m * up e * down d) (n * up d * down e) h))
+
+-- ---- between the tests
+pub lt-le : (x y : Float) → T (lt x y) → T (le x y)
+unfolding le
+lt-le x y h = or-l (lt x y) (eq x y) h
+
+nil : (x d : ℕ) → 0 < d → x * d ≡ 0 → x ≡ 0
+nil x d D h = eq-of-mul-eq-mul-right d D x 0 (h ∙ sym (zero-mul d))
+
+none : (x d : ℕ) → x ≡ 0 → x * d ≡ 0
+none x d h = ap (λ (z : ℕ). z * d) h ∙ zero-mul d
+
+under-none : (x y : ℕ) → x ≤ y → y ≡ 0 → x ≡ 0
+under-none x y h e = omega arith
+
+over-none : (x y : ℕ) → x ≡ 0 → x ≤ y
+over-none x y e = omega arith
+
+-- ± x / p at most ± y / q, and that at most ± z / r
+most-trans : (s t u : Bool) (x p y q z r : ℕ) → 0 < p → 0 < q → 0 < r → Most s (x * q) t (y * p) → Most t (y * r) u (z * q) → Most s (x * r) u (z * p)
+most-trans false false false x p y q z r P Q R h k = through x y z p q r Q h k
+most-trans false false true x p y q z r P Q R h k = (none x r (nil x q Q (under-none (x * q) (y * p) h (none y p (nil y r R (k .0))))), none z p (nil z q Q (k .1)))
+most-trans false true false x p y q z r P Q R h k = over-none (x * r) (z * p) (none x r (nil x q Q (h .0)))
+most-trans false true true x p y q z r P Q R h k = (none x r (nil x q Q (h .0)), none z p (nil z q Q (under-none (z * q) (y * r) k (none y r (nil y p P (h .1))))))
+most-trans true t false x p y q z r P Q R h k = tt
+most-trans true false true x p y q z r P Q R h k = over-none (z * p) (x * r) (none z p (nil z q Q (k .1)))
+most-trans true true true x p y q z r P Q R h k = through z y x r q p Q k h
+
+no-nan : (y : Float) → T (le y nan) → ⊥
+unfolding le
+no-nan nan k = k
+no-nan (inf t) k = k
+no-nan (fin t n d) k = k
+
+top-only : (y : Float) → T (le (inf false) y) → y ≡ inf false
+unfolding le
+top-only nan h = absurd h
+top-only (inf true) h = absurd h
+top-only (inf false) h = refl
+top-only (fin t n d) h = absurd h
+
+pub le-through : (x y z : Float) → T (le x y) → T (le y z) → T (le x z)
+unfolding le
+le-through nan y z h k = absurd h
+le-through (inf true) y nan h k = absurd (no-nan y k)
+le-through (inf true) y (inf true) h k = tt
+le-through (inf true) y (inf false) h k = tt
+le-through (inf true) y (fin u o g) h k = tt
+le-through (inf false) y z h k = subst (λ (x : Float). T (le x z)) (top-only y h) k
+le-through (fin s m e) nan z h k = absurd h
+le-through (fin s m e) (inf true) z h k = absurd h
+le-through (fin s m e) (inf false) nan h k = absurd k
+le-through (fin s m e) (inf false) (inf true) h k = absurd k
+le-through (fin s m e) (inf false) (inf false) h k = tt
+le-through (fin s m e) (inf false) (fin u o g) h k = absurd k
+le-through (fin s m e) (fin t n d) nan h k = absurd k
+le-through (fin s m e) (fin t n d) (inf true) h k = absurd k
+le-through (fin s m e) (fin t n d) (inf false) h k = tt
+le-through (fin s m e) (fin t n d) (fin u o g) h k =
+    fin-le s m e u o g (most-trans s t u (m * up e) (down e) (n * up d) (down d) (o * up g) (down g) (down-pos e) (down-pos d) (down-pos g) (le-fin s m e t n d h) (le-fin t n d u o g k))
+
+-- ---- a rounded value has the sign that it was given
+abbrev pub Signed : Bool → Float → Type 0
+Signed s nan = ⊥
+Signed s (inf t) = t ≡ s
+Signed s (fin t m e) = t ≡ s
+
+pub value-signed : (x : Float) (s : Bool) (a c : ℕ) → HasValue x s a c → Signed s x
+value-signed nan s a c v = v
+value-signed (inf t) s a c v = absurd v
+value-signed (fin t m e) s a c v = v .0
+
+units-signed : (f : Format) (s : Bool) (q k : ℕ) → Signed s (units f s q k)
+unfolding units
+units-signed f s q k = go (ltb (q * 2 ^ k) (2 ^ (low f + suc (emax f))))
+  where
+    go : (b : Bool) → Signed s (cond b (odd (suc (prec f)) s q k (low f)) (inf s))
+    go true = value-signed (odd (suc (prec f)) s q k (low f)) s (q * 2 ^ k) (2 ^ low f) (odd-sign (suc (prec f)) s q k (low f))
+    go false = refl
+
+pub round-signed : (f : Format) (s : Bool) (a c : ℕ) → Signed s (round f s a c)
+round-signed f s a c = subst (Signed s) (sym (round-core f s a c)) (units-signed f s _ _)
+
+pub minus-le-plus : (x y : Float) → Signed true x → Signed false y → T (le x y)
+unfolding le
+minus-le-plus nan y h k = absurd h
+minus-le-plus (inf true) nan h k = absurd k
+minus-le-plus (inf true) (inf t) h k = subst (λ (u : Bool). T (le (inf true) (inf u))) (sym k) tt
+minus-le-plus (inf false) y h k = absurd (true≢false (sym h))
+minus-le-plus (inf true) (fin t n d) h k = tt
+minus-le-plus (fin true m e) nan h k = absurd k
+minus-le-plus (fin true m e) (inf true) h k = absurd (true≢false k)
+minus-le-plus (fin true m e) (inf false) h k = tt
+minus-le-plus (fin false m e) y h k = absurd (true≢false (sym h))
+minus-le-plus (fin true m e) (fin true n d) h k = absurd (true≢false k)
+minus-le-plus (fin true m e) (fin false n d) h k = fin-le true m e false n d tt
+
+least : (s : Bool) (y : Float) → Signed s y → T (le (inf true) y)
+unfolding le
+least s nan h = absurd h
+least s (inf true) h = tt
+least s (inf false) h = tt
+least s (fin t m e) h = tt
+
+largest : (s : Bool) (y : Float) → Signed s y → T (le y (inf false))
+unfolding le
+largest s nan h = absurd h
+largest s (inf true) h = tt
+largest s (inf false) h = tt
+largest s (fin t m e) h = tt
+
+zeros-le : T (le (round binary64 false 0 1) (round binary64 true 0 1))
+unfolding round le
+zeros-le = tt
+
+round-le : (s t : Bool) (p q : ℕ) → Most s p t q → T (le (round binary64 s p 1) (round binary64 t q 1))
+round-le false false p q h = rounds-up binary64 p 1 q 1 (lit< tt) (lit< tt) (mul-le-mul-right 1 h)
+round-le false true p q h = subst (λ (z : ℕ). T (le (round binary64 false z 1) (round binary64 true q 1))) (sym (h .0)) (subst (λ (z : ℕ). T (le (round binary64 false 0 1) (round binary64 true z 1))) (sym (h .1)) zeros-le)
+round-le true false p q h = minus-le-plus (round binary64 true p 1) (round binary64 false q 1) (round-signed binary64 true p 1) (round-signed binary64 false q 1)
+round-le true true p q h =
+    subst (λ (z : Float). T (le z (round binary64 true q 1))) (neg-round binary64 false p 1)
+    (subst (λ (z : Float). T (le (neg (round binary64 false p 1)) z)) (neg-round binary64 false q 1)
+    (neg-le (round binary64 false q 1) (round binary64 false p 1) (rounds-up binary64 q 1 p 1 (lit< tt) (lit< tt) (mul-le-mul-right 1 h))))
+
+nan-no : (y : Float) → T (le nan y) → ⊥
+unfolding le
+nan-no y h = h
+
+no-top : (t : Bool) (n : ℕ) (d : ℤ) → T (le (inf false) (fin t n d)) → ⊥
+unfolding le
+no-top t n d h = h
+
+no-bottom : (s : Bool) (m : ℕ) (e : ℤ) → T (le (fin s m e) (inf true)) → ⊥
+unfolding le
+no-bottom s m e h = h
+
+-- ---- to a whole number, each sign its own way
+wholly : (Bool → ℕ → ℕ → ℕ) → Float → Float
+wholly pick nan = nan
+wholly pick (inf s) = inf s
+wholly pick (fin s m e) = round binary64 s (pick s (m * up e) (down e)) 1
+
+-- a larger fraction gives no smaller number, and a whole number stays
+record Steps (pick : ℕ → ℕ → ℕ) : Type 0 where
+  mono : (a c b d : ℕ) → 0 < c → 0 < d → a * d ≤ b * c → pick a c ≤ pick b d
+  keeps : (n c : ℕ) → 0 < c → pick (n * c) c ≡ n
+
+cut-steps : Steps cut
+cut-steps = record { mono = λ a c b d C D h. div-mono a c b d C D h; keeps = λ n c C. mul-div-cancel n C }
+
+lifted-mono : (a c b d : ℕ) → 0 < c → 0 < d → a * d ≤ b * c → lifted a c ≤ lifted b d
+lifted-mono a c b d C D h =
+    elim (eq-zero-or-pos (lifted a c)) [
+      | inl z ↦ over-none (lifted a c) (lifted b d) z
+      | inr p ↦ up-to (lifted a c) p refl
+    ]
+  where
+    below-a : (q : ℕ) → suc q ≡ lifted a c → q * c < a
+    below-a q e =
+        let l : suc q * c ≤ a + (c - 1) = le-trans (le-of-eq (ap (λ (z : ℕ). z * c) e)) (div-mul-le-self (a + (c - 1)) c) in
+        let s : suc q * c ≡ q * c + c = suc-mul q c in
+        omega arith
+
+    next : (q : ℕ) → q * d < b → suc q ≤ lifted b d
+    next q l = let s : suc q * d ≡ q * d + d = suc-mul q d in le-div-iff-mul-le D .1 (omega arith)
+
+    up-to : (q : ℕ) → 0 < q → q ≡ lifted a c → q ≤ lifted b d
+    up-to zero p e = absurd (lt-irrefl 0 p)
+    up-to (suc q) p e =
+        next q (lt-of-mul-lt-mul-right c (lt-of-le-of-lt (le-of-eq (mul-right-comm q d c)) (lt-of-lt-of-le (mul-lt-mul-of-pos-right (below-a q e) D) h)))
+
+lifted-steps : Steps lifted
+lifted-steps = record { mono = lifted-mono; keeps = stays }
+  where
+    stays : (n c : ℕ) → 0 < c → lifted (n * c) c ≡ n
+    stays n c C = let s : suc n * c ≡ n * c + c = suc-mul n c in let t : (n + 1) * c ≡ suc n * c = ap (λ (z : ℕ). z * c) (add-one n) in div-eq-of-lt-le c (omega arith) (omega arith)
+
+half-steps : Steps halfUp
+half-steps = record { mono = mono; keeps = stays }
+  where
+    mono : (a c b d : ℕ) → 0 < c → 0 < d → a * d ≤ b * c → halfUp a c ≤ halfUp b d
+    mono a c b d C D h = div-mono (2 * a + c) (2 * c) (2 * b + d) (2 * d) (mul-pos (lit< tt) C) (mul-pos (lit< tt) D) (omega arith)
+
+    stays : (n c : ℕ) → 0 < c → halfUp (n * c) c ≡ n
+    stays n c C = div-eq-of-lt-le (2 * c) (omega arith) (omega arith)
+
+module _ (pick : Bool → ℕ → ℕ → ℕ) (steps : (s : Bool) → Steps (pick s)) where
+  zero-picked : (s : Bool) (m u c d : ℕ) → 0 < c → 0 < d → m * u * d ≡ 0 → pick s (m * u) c ≡ 0
+  zero-picked s m u c d C D h = ap (λ (z : ℕ). pick s z c) (nil (m * u) d D h ∙ sym (zero-mul c)) ∙ steps s .keeps 0 c C
+
+  picked : (s t : Bool) (m : ℕ) (e : ℤ) (n : ℕ) (d : ℤ) → Most s (m * up e * down d) t (n * up d * down e) → Most s (pick s (m * up e) (down e)) t (pick t (n * up d) (down d))
+  picked false false m e n d h = steps false .mono (m * up e) (down e) (n * up d) (down d) (down-pos e) (down-pos d) h
+  picked false true m e n d h = (zero-picked false m (up e) (down e) (down d) (down-pos e) (down-pos d) (h .0), zero-picked true n (up d) (down d) (down e) (down-pos d) (down-pos e) (h .1))
+  picked true false m e n d h = tt
+  picked true true m e n d h = steps true .mono (n * up d) (down d) (m * up e) (down e) (down-pos d) (down-pos e) h
+
+  wholly-mono : (x y : Float) → T (le x y) → T (le (wholly pick x) (wholly pick y))
+  unfolding wholly
+  wholly-mono nan y h = absurd (nan-no y h)
+  wholly-mono (inf s) nan h = absurd (no-nan (inf s) h)
+  wholly-mono (inf s) (inf t) h = h
+  wholly-mono (inf true) (fin t n d) h = least t (round binary64 t (pick t (n * up d) (down d)) 1) (round-signed binary64 t (pick t (n * up d) (down d)) 1)
+  wholly-mono (inf false) (fin t n d) h = absurd (no-top t n d h)
+  wholly-mono (fin s m e) nan h = absurd (no-nan (fin s m e) h)
+  wholly-mono (fin s m e) (inf true) h = absurd (no-bottom s m e h)
+  wholly-mono (fin s m e) (inf false) h = largest s (round binary64 s (pick s (m * up e) (down e)) 1) (round-signed binary64 s (pick s (m * up e) (down e)) 1)
+  wholly-mono (fin s m e) (fin t n d) h = round-le s t (pick s (m * up e) (down e)) (pick t (n * up d) (down d)) (picked s t m e n d (le-fin s m e t n d h))
+
+  wholly-keeps : (x : Float) (s : Bool) (n : ℕ) → HasValue x s n 1 → wholly pick x ≡ round binary64 s n 1
+  unfolding wholly
+  wholly-keeps nan s n v = absurd v
+  wholly-keeps (inf t) s n v = absurd v
+  wholly-keeps (fin t m e) s n v =
+      ap (λ (z : ℕ). round binary64 t (pick t z (down e)) 1) (sym (mul-one (m * up e)) ∙ v .1) ∙ ap (λ (z : ℕ). round binary64 t z 1) (steps t .keeps n (down e) (down-pos e)) ∙ ap (λ (z : Bool). round binary64 z n 1) (v .0)
+
+floor-pick : Bool → ℕ → ℕ → ℕ
+floor-pick true = lifted
+floor-pick false = cut
+
+ceil-pick : Bool → ℕ → ℕ → ℕ
+ceil-pick true = cut
+ceil-pick false = lifted
+
+round-pick : Bool → ℕ → ℕ → ℕ
+round-pick s = halfUp
+
+floor-steps : (s : Bool) → Steps (floor-pick s)
+unfolding floor-pick
+floor-steps true = lifted-steps
+floor-steps false = cut-steps
+
+ceil-steps : (s : Bool) → Steps (ceil-pick s)
+unfolding ceil-pick
+ceil-steps true = cut-steps
+ceil-steps false = lifted-steps
+
+round-steps : (s : Bool) → Steps (round-pick s)
+unfolding round-pick
+round-steps s = half-steps
+
+floor-is : (x : Float) → floorOf x ≡ wholly floor-pick x
+unfolding floorOf wholly floor-pick
+floor-is nan = refl
+floor-is (inf s) = refl
+floor-is (fin true m e) = refl
+floor-is (fin false m e) = refl
+
+ceil-is : (x : Float) → ceilOf x ≡ wholly ceil-pick x
+unfolding ceilOf wholly ceil-pick
+ceil-is nan = refl
+ceil-is (inf s) = refl
+ceil-is (fin true m e) = refl
+ceil-is (fin false m e) = refl
+
+round-is : (x : Float) → roundOf x ≡ wholly round-pick x
+unfolding roundOf wholly round-pick
+round-is nan = refl
+round-is (inf s) = refl
+round-is (fin s m e) = refl
+
+pub floor-mono : (x y : Float) → T (le x y) → T (le (floorOf x) (floorOf y))
+floor-mono x y h = rw (floor-is x, floor-is y) (wholly-mono floor-pick floor-steps x y h)
+
+pub ceil-mono : (x y : Float) → T (le x y) → T (le (ceilOf x) (ceilOf y))
+ceil-mono x y h = rw (ceil-is x, ceil-is y) (wholly-mono ceil-pick ceil-steps x y h)
+
+pub round-mono : (x y : Float) → T (le x y) → T (le (roundOf x) (roundOf y))
+round-mono x y h = rw (round-is x, round-is y) (wholly-mono round-pick round-steps x y h)
+
+-- ---- a whole number stays
+pub floor-keeps : (x : Float) (s : Bool) (n : ℕ) → HasValue x s n 1 → floorOf x ≡ round binary64 s n 1
+floor-keeps x s n v = floor-is x ∙ wholly-keeps floor-pick floor-steps x s n v
+
+pub ceil-keeps : (x : Float) (s : Bool) (n : ℕ) → HasValue x s n 1 → ceilOf x ≡ round binary64 s n 1
+ceil-keeps x s n v = ceil-is x ∙ wholly-keeps ceil-pick ceil-steps x s n v
+
+pub round-keeps : (x : Float) (s : Bool) (n : ℕ) → HasValue x s n 1 → roundOf x ≡ round binary64 s n 1
+round-keeps x s n v = round-is x ∙ wholly-keeps round-pick round-steps x s n v
