@@ -6,7 +6,9 @@ pub mod Sums
 pub mod Cuts
 pub mod Remainders
 pub mod Counts
+pub mod Signs
 pub mod Monotone
+pub mod Within
 pub mod Patterns
 pub mod Narrowing
 pub mod Ordered

@@ -20,7 +20,7 @@ use lib.Ieee.Positive.{through}
 use Rattle.float.specs.Whole.{cut, lifted, halfUp, wholeBy, floorOf, ceilOf, roundOf}
 use Rattle.float.proofs.Exactly.{neg-round}
 use Rattle.float.proofs.Compared.{nought, no, or-split, lt-or-eq}
-use Rattle.float.proofs.Counts.{whole-is, whole-value}
+use Rattle.float.proofs.Signs.{Signed, round-signed}
 
 -- ---- ± a at most ± b
 abbrev pub Most : Bool → ℕ → Bool → ℕ → Type 0
@@ -160,28 +160,7 @@ le-through (fin s m e) (fin t n d) (inf false) h k = tt
 le-through (fin s m e) (fin t n d) (fin u o g) h k =
     fin-le s m e u o g (most-trans s t u (m * up e) (down e) (n * up d) (down d) (o * up g) (down g) (down-pos e) (down-pos d) (down-pos g) (le-fin s m e t n d h) (le-fin t n d u o g k))
 
--- ---- a rounded value has the sign that it was given
-abbrev pub Signed : Bool → Float → Type 0
-Signed s nan = ⊥
-Signed s (inf t) = t ≡ s
-Signed s (fin t m e) = t ≡ s
-
-pub value-signed : (x : Float) (s : Bool) (a c : ℕ) → HasValue x s a c → Signed s x
-value-signed nan s a c v = v
-value-signed (inf t) s a c v = absurd v
-value-signed (fin t m e) s a c v = v .0
-
-units-signed : (f : Format) (s : Bool) (q k : ℕ) → Signed s (units f s q k)
-unfolding units
-units-signed f s q k = go (ltb (q * 2 ^ k) (2 ^ (low f + suc (emax f))))
-  where
-    go : (b : Bool) → Signed s (cond b (odd (suc (prec f)) s q k (low f)) (inf s))
-    go true = value-signed (odd (suc (prec f)) s q k (low f)) s (q * 2 ^ k) (2 ^ low f) (odd-sign (suc (prec f)) s q k (low f))
-    go false = refl
-
-pub round-signed : (f : Format) (s : Bool) (a c : ℕ) → Signed s (round f s a c)
-round-signed f s a c = subst (Signed s) (sym (round-core f s a c)) (units-signed f s _ _)
-
+-- ---- by sign
 pub minus-le-plus : (x y : Float) → Signed true x → Signed false y → T (le x y)
 unfolding le
 minus-le-plus nan y h k = absurd h
@@ -236,15 +215,15 @@ unfolding le
 no-bottom s m e h = h
 
 -- ---- to a whole number, each sign its own way
-wholly : (Bool → ℕ → ℕ → ℕ) → Float → Float
+unfoldable pub wholly : (Bool → ℕ → ℕ → ℕ) → Float → Float
 wholly pick nan = nan
 wholly pick (inf s) = inf s
 wholly pick (fin s m e) = round binary64 s (pick s (m * up e) (down e)) 1
 
 -- a larger fraction gives no smaller number, and a whole number stays
-record Steps (pick : ℕ → ℕ → ℕ) : Type 0 where
-  mono : (a c b d : ℕ) → 0 < c → 0 < d → a * d ≤ b * c → pick a c ≤ pick b d
-  keeps : (n c : ℕ) → 0 < c → pick (n * c) c ≡ n
+pub record Steps (pick : ℕ → ℕ → ℕ) : Type 0 where
+  pub mono : (a c b d : ℕ) → 0 < c → 0 < d → a * d ≤ b * c → pick a c ≤ pick b d
+  pub keeps : (n c : ℕ) → 0 < c → pick (n * c) c ≡ n
 
 cut-steps : Steps cut
 cut-steps = record { mono = λ a c b d C D h. div-mono a c b d C D h; keeps = λ n c C. mul-div-cancel n C }
@@ -314,46 +293,46 @@ module _ (pick : Bool → ℕ → ℕ → ℕ) (steps : (s : Bool) → Steps (pi
   wholly-keeps (fin t m e) s n v =
       ap (λ (z : ℕ). round binary64 t (pick t z (down e)) 1) (sym (mul-one (m * up e)) ∙ v .1) ∙ ap (λ (z : ℕ). round binary64 t z 1) (steps t .keeps n (down e) (down-pos e)) ∙ ap (λ (z : Bool). round binary64 z n 1) (v .0)
 
-floor-pick : Bool → ℕ → ℕ → ℕ
+pub floor-pick : Bool → ℕ → ℕ → ℕ
 floor-pick true = lifted
 floor-pick false = cut
 
-ceil-pick : Bool → ℕ → ℕ → ℕ
+pub ceil-pick : Bool → ℕ → ℕ → ℕ
 ceil-pick true = cut
 ceil-pick false = lifted
 
-round-pick : Bool → ℕ → ℕ → ℕ
+pub round-pick : Bool → ℕ → ℕ → ℕ
 round-pick s = halfUp
 
-floor-steps : (s : Bool) → Steps (floor-pick s)
+pub floor-steps : (s : Bool) → Steps (floor-pick s)
 unfolding floor-pick
 floor-steps true = lifted-steps
 floor-steps false = cut-steps
 
-ceil-steps : (s : Bool) → Steps (ceil-pick s)
+pub ceil-steps : (s : Bool) → Steps (ceil-pick s)
 unfolding ceil-pick
 ceil-steps true = cut-steps
 ceil-steps false = lifted-steps
 
-round-steps : (s : Bool) → Steps (round-pick s)
+pub round-steps : (s : Bool) → Steps (round-pick s)
 unfolding round-pick
 round-steps s = half-steps
 
-floor-is : (x : Float) → floorOf x ≡ wholly floor-pick x
+pub floor-is : (x : Float) → floorOf x ≡ wholly floor-pick x
 unfolding floorOf wholly floor-pick
 floor-is nan = refl
 floor-is (inf s) = refl
 floor-is (fin true m e) = refl
 floor-is (fin false m e) = refl
 
-ceil-is : (x : Float) → ceilOf x ≡ wholly ceil-pick x
+pub ceil-is : (x : Float) → ceilOf x ≡ wholly ceil-pick x
 unfolding ceilOf wholly ceil-pick
 ceil-is nan = refl
 ceil-is (inf s) = refl
 ceil-is (fin true m e) = refl
 ceil-is (fin false m e) = refl
 
-round-is : (x : Float) → roundOf x ≡ wholly round-pick x
+pub round-is : (x : Float) → roundOf x ≡ wholly round-pick x
 unfolding roundOf wholly round-pick
 round-is nan = refl
 round-is (inf s) = refl

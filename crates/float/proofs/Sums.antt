@@ -82,7 +82,7 @@ pub cond-nil : (n : ℕ) (x y : Float) → 0 < n → cond (eqb n 0) x y ≡ y
 cond-nil zero x y h = absurd (lt-irrefl 0 h)
 cond-nil (suc n) x y h = cond-no (eqb (suc n) 0) x y (no (eqb·suc-zero n))
 
-some-digits : (n u d b c : ℕ) → 0 < d → n * u * c ≡ b * d → 0 < b → 0 < n
+pub some-digits : (n u d b c : ℕ) → 0 < d → n * u * c ≡ b * d → 0 < b → 0 < n
 some-digits zero u d b c D e h = absurd (lt-irrefl 0 (subst (λ (z : ℕ). 0 < z) (sym e ∙ ap (λ (z : ℕ). z * c) (zero-mul u) ∙ zero-mul c) (mul-pos h D)))
 some-digits (suc n) u d b c D e h = zero-lt-suc n
 
