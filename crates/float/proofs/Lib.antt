@@ -9,6 +9,7 @@ pub mod Counts
 pub mod Signs
 pub mod Monotone
 pub mod Within
+pub mod Intervals
 pub mod Patterns
 pub mod Narrowing
 pub mod Ordered

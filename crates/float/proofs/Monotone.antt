@@ -1,5 +1,5 @@
--- Order. `le-fin`, `fin-le`: what `<=` of two finite values says of their signs and sizes. `neg-le`: a minus turns it round. `le-trans`, `lt-le`, `not-lt-le`: between the tests.
--- `floor-mono`, `ceil-mono`, `round-mono`: x at most y has floor, ceil and round of x at most those of y; `whole-keeps` and its three cases: a whole number stays. With infinities and minus signs among the values. Assumes nothing.
+-- Order. `le-fin`, `fin-le`: what `<=` of two finite values says of their signs and sizes. `neg-le`: a minus turns it round. `lt-le`, `not-lt-le`: between the tests. `le-through`: by way of a third. `minus-le-plus`, `signed-le`: by sign.
+-- `floor-mono`, `ceil-mono`, `round-mono`: x at most y has floor, ceil and round of x at most those of y; `floor-keeps`, `ceil-keeps`, `round-keeps`: a whole number stays. With infinities and minus signs among the values. Assumes nothing.
 use mathlib.Core.Path.{_≡_, refl, sym, ap, _∙_, subst}
 use mathlib.Core.Logic.{_⊎_, inl, inr}
 use Prim.Native.Nat.{ℕ, zero, suc, _+_, _-_, _*_, _/_, _%_, _^_, _≤_, _<_, zero-le}
@@ -11,7 +11,7 @@ use lib.IntN.{ℤ, pos}
 use lib.Dec.{T, ltb, eqb, ltb→lt, lt→ltb, nltb→le, eqb→eq, not-T, T-not, lit<}
 use lib.Arith.{le→nltb}
 use lib.Pow.{pow-pos}
-use lib.Ieee.{Float, nan, inf, fin, Format, binary64, prec, emax, low, up, down, below, level, odd, units, round, neg, lt, eq, le, ofInt}
+use lib.Ieee.{Float, nan, inf, fin, Format, binary64, prec, emax, low, up, down, below, level, odd, units, round, neg, lt, eq, le, isNan}
 use lib.Ieee.Fits.{round-is as round-core, up-pos, down-pos, and-i, and-l, and-r, eq→eqb}
 use lib.Ieee.Exact.{HasValue, units-val, odd-sign}
 use lib.Ieee.Nearest.{div-mono}
@@ -105,6 +105,34 @@ pub lt-le : (x y : Float) → T (lt x y) → T (le x y)
 unfolding le
 lt-le x y h = or-l (lt x y) (eq x y) h
 
+not-below : (s t : Bool) (a b : ℕ) → T (not (below s a t b)) → Most t b s a
+not-below false false a b h = nltb→le a b h
+not-below false true a b h = tt
+not-below true false a b h = (right a b (nltb→le 0 (a + b) h), left a b (nltb→le 0 (a + b) h))
+  where
+    right : (a b : ℕ) → a + b ≤ 0 → b ≡ 0
+    right a b h = omega arith
+
+    left : (a b : ℕ) → a + b ≤ 0 → a ≡ 0
+    left a b h = omega arith
+not-below true true a b h = nltb→le b a h
+
+-- of two numbers, what is not below is at least
+pub not-lt-le : (x y : Float) → T (not (isNan x)) → T (not (isNan y)) → T (not (lt x y)) → T (le y x)
+unfolding lt le isNan
+not-lt-le nan y p q h = absurd p
+not-lt-le (inf s) nan p q h = absurd q
+not-lt-le (inf true) (inf true) p q h = tt
+not-lt-le (inf true) (inf false) p q h = absurd h
+not-lt-le (inf false) (inf true) p q h = tt
+not-lt-le (inf false) (inf false) p q h = tt
+not-lt-le (inf true) (fin t n d) p q h = absurd h
+not-lt-le (inf false) (fin t n d) p q h = tt
+not-lt-le (fin s m e) nan p q h = absurd q
+not-lt-le (fin s m e) (inf true) p q h = tt
+not-lt-le (fin s m e) (inf false) p q h = absurd h
+not-lt-le (fin s m e) (fin t n d) p q h = at-most t s (n * up d * down e) (m * up e * down d) (not-below s t (m * up e * down d) (n * up d * down e) h)
+
 nil : (x d : ℕ) → 0 < d → x * d ≡ 0 → x ≡ 0
 nil x d D h = eq-of-mul-eq-mul-right d D x 0 (h ∙ sym (zero-mul d))
 
@@ -174,6 +202,14 @@ minus-le-plus (fin true m e) (inf false) h k = tt
 minus-le-plus (fin false m e) y h k = absurd (true≢false (sym h))
 minus-le-plus (fin true m e) (fin true n d) h k = absurd (true≢false k)
 minus-le-plus (fin true m e) (fin false n d) h k = fin-le true m e false n d tt
+
+pub signed-le : (x : Float) → Signed false x → T (le nought x)
+unfolding le
+signed-le nan h = h
+signed-le (inf true) h = absurd (true≢false h)
+signed-le (inf false) h = tt
+signed-le (fin true m e) h = absurd (true≢false h)
+signed-le (fin false m e) h = fin-le false 0 (pos 0) false m e (over-none (0 * 1 * down e) (m * up e * 1) (zero-mul (down e)))
 
 least : (s : Bool) (y : Float) → Signed s y → T (le (inf true) y)
 unfolding le
