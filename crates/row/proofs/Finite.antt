@@ -1,0 +1,53 @@
+-- Finite samples: what a test of every sample gives, turn by turn, and what it says of each sample.
+use Prim.Native.Nat.{ℕ, _+_, _<_, _≤_}
+use native.Mathlib.Numerals.{add-one}
+use native.Mathlib.Omega.{arith}
+use mathlib.Core.Path.{_≡_, refl, sym, _∙_}
+use mathlib.Core.Bool.{Bool, true, false, not, _&&_, false≢true, and-false, and-true}
+use mathlib.Core.List.{List}
+use lib.Dec.{T}
+use lib.ListN.{length, getD}
+use lib.Ieee.{Float, nan, inf, fin, isNan, lt}
+use Rattle.complex.specs.Every.{every, every-at}
+use Rattle.row.specs.Samples.{finiteF, finiteTo, allFinite}
+
+pub finite-at : (l : List Float) (k : ℕ) → k < length l → allFinite l ≡ true → finiteF (getD l k nan) ≡ true
+unfolding finiteTo
+finite-at l k h e = every-at (λ k. finiteF (getD l k nan)) (length l) k h e
+
+pub finite-not-nan : (x : Float) → finiteF x ≡ true → T (not (isNan x))
+unfolding finiteF isNan
+finite-not-nan nan e = absurd (false≢true e)
+finite-not-nan (inf s) e = tt
+finite-not-nan (fin s m e') e = tt
+
+-- a loop that tests each sample: before it, a turn that finds it finite, one that does not, and its end
+module _ (l : List Float) where
+  pub finite-none : true ≡ finiteTo l 0
+  unfolding finiteTo
+  finite-none = refl
+
+  pub finite-yes : (i : ℕ) (ok t r : Bool) → ok ≡ finiteTo l i → t ≡ finiteF (getD l i nan) → t ≡ true → r ≡ ok → r ≡ finiteTo l (i + 1)
+  unfolding finiteTo
+  finite-yes i ok t r p e h q = rw (q, p, add-one, ← e, h, and-true)
+
+  pub finite-no : (i : ℕ) (t r : Bool) → t ≡ finiteF (getD l i nan) → t ≡ false → r ≡ false → r ≡ finiteTo l (i + 1)
+  unfolding finiteTo
+  finite-no i t r e h q = rw (q, add-one, ← e, h, and-false)
+
+  pub finite-done : (i : ℕ) (ok : Bool) → ok ≡ finiteTo l i → i ≤ length l → length l ≤ i → ok ≡ allFinite l
+  finite-done i ok p h g = let all : i ≡ length l = omega arith in rw all at p
+
+-- the two comparisons of the code, with an infinity
+pub below-top : (x : Float) → lt x (inf false) ≡ true → lt (inf true) x ≡ finiteF x
+unfolding lt finiteF
+below-top nan e = refl
+below-top (inf true) e = refl
+below-top (inf false) e = sym e
+below-top (fin s m d) e = refl
+
+pub not-below-top : (x : Float) → lt x (inf false) ≡ false → lt x (inf false) ≡ finiteF x
+unfolding lt finiteF
+not-below-top nan e = refl
+not-below-top (inf s) e = e
+not-below-top (fin s m d) e = refl

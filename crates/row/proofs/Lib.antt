@@ -1,0 +1,4 @@
+-- Laws that the proofs of `row` share and that the crates above cite.
+pub mod Finite
+pub mod Running
+pub mod Laws

@@ -1,0 +1,30 @@
+-- The amplitude row (01, part 2): B − 7 amplitudes, by the Rust's running sum from left to right; none if n < window. Definitions only.
+use Prim.Native.Nat.{ℕ, zero, suc, _+_, _-_}
+use mathlib.Core.List.{List, [], _∷_, _++_}
+use lib.Ieee.{Float}
+use Rattle.float.specs.Ops.{eight}
+use Rattle.complex.specs.declared.value.Complex.{Complex}
+use Rattle.complex.specs.Cx.{cAdd, cSub, cDiv, cNorm}
+use Rattle.complex.specs.Rows.{cSum}
+use Rattle.row.specs.Window.{stepBlocks}
+
+-- what comes in is added, less what goes out
+abbrev pub movedBy : (ℕ → Complex) → ℕ → Complex → Complex
+movedBy z i run = cAdd run (cSub (z (8 + i)) (z i))
+
+-- the running sum of eight neighbours
+unfoldable pub runOf : (ℕ → Complex) → ℕ → Complex
+runOf z zero = cSum z 0 8
+runOf z (suc i) = movedBy z i (runOf z i)
+
+abbrev pub amplitude : (ℕ → Complex) → ℕ → Float
+amplitude z i = cNorm (cDiv (runOf z i) eight)
+
+-- how many the row holds: B − 7, which is none for n < window, as B is then at most 7
+abbrev pub rowLength : List Float → Float → ℕ
+rowLength iq fs = stepBlocks iq fs - 7
+
+-- the first n numbers of a row, as a list
+unfoldable pub listOf : (ℕ → Float) → ℕ → List Float
+listOf f zero = []
+listOf f (suc n) = listOf f n ++ (f n ∷ [])

@@ -1,0 +1,4 @@
+-- What the contracts of `row` cite.
+pub mod Window
+pub mod Samples
+pub mod Amplitudes

@@ -1,0 +1,51 @@
+// The row of amplitudes: the size of the mean of eight neighbouring block means, by a running sum.
+use complex::Complex;
+ghost use mathlib.Core.Path.{_≡_};
+ghost use Prim.Native.Nat.{_+_, _-_, _*_, _<_, _≤_};
+ghost use lib.ListN.{length};
+ghost use Rattle.complex.specs.Rows.{zAt, cSum};
+ghost use Rattle.complex.specs.Fill.{fill};
+ghost use Rattle.row.specs.Amplitudes.{movedBy, amplitude};
+
+// The sum of the n complex numbers of `row` from number a.
+fn total(row: &[f64], a: usize, n: usize) -> Complex
+    requires { ⌜ 2 * (a + n) ≤ length (now row) ⌝ }
+    ensures { λ r. ⌜ r ≡ cSum (zAt (now (row .entry))) a n ⌝ }
+{
+    let mut acc = Complex::ZERO;
+    for j in 0..n {
+        acc = acc.add(complex::get(row, a + j));
+    }
+    acc
+}
+
+// The running sum one further: what comes in, less what goes out.
+fn moved(run: Complex, row: &[f64], i: usize) -> Complex
+    requires { ⌜ 2 * (8 + i) + 1 < length (now row) ⌝ }
+    ensures { λ r. ⌜ r ≡ movedBy (zAt (now (row .entry))) i run ⌝ }
+{
+    let a = 2 * (8 + i);
+    let b = 2 * i;
+    Complex {
+        re: run.re + (row[a] - row[b]),
+        im: run.im + (row[a + 1] - row[b + 1]),
+    }
+}
+
+// Past the b complex numbers that `work` starts with go the b - 7 amplitudes.
+// Rust: the running sum of find_elements. Each sum is made before the amplitude that precedes it is stored.
+fn running(work: &mut [f64], b: usize)
+    requires { ⌜ 8 ≤ b ⌝ }
+    requires { ⌜ 3 * b ≤ length (now work) ⌝ }
+    ensures { λ _. ⌜ now (work .exit) ≡ fill (now (work .entry)) (2 * b) (amplitude (zAt (now (work .entry)))) (b - 7) ⌝ }
+{
+    let o = 2 * b;
+    let n = b - 8;
+    let mut run = total(work, 0, 8);
+    for i in 0..n {
+        let next = moved(run, work, i);
+        work[o + i] = run.div_real(8.0).norm();
+        run = next;
+    }
+    work[o + n] = run.div_real(8.0).norm();
+}
