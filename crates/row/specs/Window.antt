@@ -1,11 +1,12 @@
--- The sample rate, and `step` and `window`, which come from `edge_window` (01, head and question 1). Definitions only.
+-- The sample rate, and `step` and `window`, which come from `edge_window` (01, head and question 1). Definitions only, and the bit pattern of the constant.
 use Prim.Native.Nat.{ℕ, _*_, _/_}
+use mathlib.Core.Path.{_≡_, refl}
 use mathlib.Core.Bool.{Bool, _&&_}
 use mathlib.Core.List.{List}
 use lib.Dec.{T}
 use lib.ListN.{length}
-use lib.Ieee.{Float, le, toUnsigned}
-use Rattle.float.specs.Ops.{_⊗_, _⊘_, of, fraction, maxOf, one, eight}
+use lib.Ieee.{Float, le, toUnsigned, round, ofBits}
+use Rattle.float.specs.Ops.{_⊗_, _⊘_, bits, of, fraction, maxOf, one, eight}
 use Rattle.float.specs.Whole.{roundOf}
 
 -- question 1: is fs a number from 2,000 to 192,000, ends included?
@@ -20,6 +21,10 @@ pub record Rate (fs : Float) : Type 0 where
 -- EDGE_WINDOW_S: 256.0 / 96_000.0
 unfoldable pub EDGE_WINDOW_S : Float
 EDGE_WINDOW_S = fraction 256 96000
+
+pub edge-window-bits : bits 0x3f65_d867_c3ec_e2a5 ≡ EDGE_WINDOW_S
+unfolding EDGE_WINDOW_S fraction round ofBits
+edge-window-bits = refl
 
 -- step: ((fs * EDGE_WINDOW_S) / 8.0).round().max(1.0) as usize
 unfoldable pub stepOf : Float → ℕ

@@ -4,4 +4,5 @@ pub mod samples;
 pub mod window;
 
 pub use samples::all_finite;
+pub use window::edge_step;
 pub use window::rate_ok;
