@@ -4,6 +4,7 @@ use borrow.Author.Tests.{not-true, not-false}
 use Rattle.complex.specs.Rows.{cSum-none, cSum-turn, cSum-none0, cSum-turn0, cSum-done0, zFill-none, zFill-turn0, zFill-done}
 use Rattle.complex.specs.Fill.{fill-none, fill-turn, fill-done}
 use Rattle.row.proofs.Finite.{finite-at, finite-not-nan, finite-none, finite-yes, finite-no, finite-done}
+use Rattle.row.proofs.Means.{block-fits, mean-done}
 use Rattle.row.proofs.Running.{run-none, amplitude-is}
 
-pub ruleset laws = (needs, not-true, not-false, finite-at, finite-not-nan, finite-none, finite-yes, finite-no, finite-done, cSum-none, cSum-turn, cSum-none0, cSum-turn0, cSum-done0, zFill-none, zFill-turn0, zFill-done, fill-none, fill-turn, fill-done, run-none, amplitude-is)
+pub ruleset laws = (needs, not-true, not-false, finite-at, finite-not-nan, finite-none, finite-yes, finite-no, finite-done, cSum-none, cSum-turn, cSum-none0, cSum-turn0, cSum-done0, zFill-none, zFill-turn0, zFill-done, fill-none, fill-turn, fill-done, block-fits, mean-done, run-none, amplitude-is)

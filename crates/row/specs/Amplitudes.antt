@@ -2,11 +2,12 @@
 use Prim.Native.Nat.{ℕ, zero, suc, _+_, _-_}
 use mathlib.Core.List.{List, [], _∷_, _++_}
 use lib.Ieee.{Float}
-use Rattle.float.specs.Ops.{eight}
+use Rattle.float.specs.Ops.{_⊘_, eight}
 use Rattle.complex.specs.declared.value.Complex.{Complex}
 use Rattle.complex.specs.Cx.{cAdd, cSub, cDiv, cNorm}
 use Rattle.complex.specs.Rows.{cSum}
-use Rattle.row.specs.Window.{stepBlocks}
+use Rattle.row.specs.Window.{stepOf, stepBlocks}
+use Rattle.row.specs.Blocks.{blockMean}
 
 -- what comes in is added, less what goes out
 abbrev pub movedBy : (ℕ → Complex) → ℕ → Complex → Complex
@@ -19,6 +20,10 @@ runOf z (suc i) = movedBy z i (runOf z i)
 
 abbrev pub amplitude : (ℕ → Complex) → ℕ → Float
 amplitude z i = cNorm (cDiv (runOf z i) eight)
+
+-- number i of the row of a recording at a rate and a carrier
+unfoldable pub rowOf : List Float → Float → Float → ℕ → Float
+rowOf iq fs carrier = amplitude (blockMean iq (carrier ⊘ fs) (stepOf fs))
 
 -- how many the row holds: B − 7, which is none for n < window, as B is then at most 7
 abbrev pub rowLength : List Float → Float → ℕ

@@ -1,8 +1,15 @@
 // The amplitude row of a recording at a carrier: cancel.rs from edge_window to the running sum of find_elements.
-pub mod amplitudes;
+pub mod blocks;
+pub mod envelope;
 pub mod samples;
 pub mod window;
 
+pub use blocks::block_mean;
+pub use blocks::block_means;
+pub use blocks::derotated;
+pub use blocks::mean_from;
+pub use blocks::rotor;
+pub use envelope::amplitudes;
 pub use samples::all_finite;
 pub use window::edge_step;
 pub use window::rate_ok;

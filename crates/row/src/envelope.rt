@@ -1,10 +1,15 @@
 // The row of amplitudes: the size of the mean of eight neighbouring block means, by a running sum.
+use crate::blocks::block_means;
 use complex::Complex;
 ghost use mathlib.Core.Path.{_≡_};
 ghost use Prim.Native.Nat.{_+_, _-_, _*_, _<_, _≤_};
 ghost use lib.ListN.{length};
-ghost use Rattle.complex.specs.Rows.{zAt, cSum};
+ghost use Rattle.complex.specs.Rows.{zAt, cSum, zFill};
 ghost use Rattle.complex.specs.Fill.{fill};
+ghost use Rattle.trig.specs.Sine.{sineTable};
+ghost use Rattle.row.specs.Window.{blocks};
+ghost use Rattle.row.specs.Samples.{Iq};
+ghost use Rattle.row.specs.Blocks.{blockMean};
 ghost use Rattle.row.specs.Amplitudes.{movedBy, amplitude};
 
 // The sum of the n complex numbers of `row` from number a.
@@ -48,4 +53,19 @@ fn running(work: &mut [f64], b: usize)
         run = next;
     }
     work[o + n] = run.div_real(8.0).norm();
+}
+
+// The means of the blocks of `step` samples as complex numbers from the start of `work` on, and after them their row of amplitudes.
+pub fn amplitudes(iq: &[f32], cyc: f64, step: usize, work: &mut [f64], sine: &[u64; 1025])
+    requires { ⌜ Iq (now iq) ⌝ }
+    requires { ⌜ now sine ≡ sineTable ⌝ }
+    requires { ⌜ 0 < step ⌝ }
+    requires { ⌜ 8 ≤ blocks (now iq) step ⌝ }
+    requires { ⌜ 3 * blocks (now iq) step ≤ length (now work) ⌝ }
+    ensures { λ _. ⌜ now (work .exit)
+        ≡ fill (zFill (now (work .entry)) 0 (blockMean (now (iq .entry)) cyc step) (blocks (now (iq .entry)) step)) (2 * blocks (now (iq .entry)) step)
+        (amplitude (blockMean (now (iq .entry)) cyc step)) (blocks (now (iq .entry)) step - 7) ⌝ }
+{
+    let b = block_means(iq, cyc, step, work, sine);
+    running(work, b);
 }

@@ -8,8 +8,8 @@ use Rattle.complex.specs.Fill.{fill}
 use Rattle.row.specs.Amplitudes.{runOf, amplitude}
 use Rattle.row.proofs.Laws.{laws}
 use Rattle.row.proofs.Running.{run-turn, row-done}
-use Rattle.row.proofs.amplitudes.running.Statement.{statement}
-use Rattle.row.proofs.amplitudes.running.Tie as tie
+use Rattle.row.proofs.envelope.running.Statement.{statement}
+use Rattle.row.proofs.envelope.running.Tie as tie
 
 abbrev Inv-loop : tie.InvT-loop
 Inv-loop work₀ b o n run₀ i₀ work run i =

@@ -2,8 +2,8 @@ use Prim.Native.Nat.{_≤_, _-_}
 use mathlib.Core.Path.{_≡_}
 use Rattle.complex.specs.Rows.{zAt, cSum}
 use Rattle.row.proofs.Laws.{laws}
-use Rattle.row.proofs.amplitudes.total.Statement.{statement}
-use Rattle.row.proofs.amplitudes.total.Tie as tie
+use Rattle.row.proofs.envelope.total.Statement.{statement}
+use Rattle.row.proofs.envelope.total.Tie as tie
 
 abbrev Inv-loop : tie.InvT-loop
 Inv-loop row a n acc₀ j₀ acc j = (j ≤ n) × (acc ≡ cSum (zAt row) a j)

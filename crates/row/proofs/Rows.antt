@@ -1,0 +1,83 @@
+-- The row of amplitudes in the work slice: it is that of the block means stored before it, read by its index or as a list.
+use Prim.Native.Nat.{ℕ, zero, suc, _+_, _-_, _*_, _/_, _≤_, _<_}
+use native.Mathlib.Nat.{not-suc-le-zero, eq-or-lt-of-le, le-of-suc-le-suc, div-lt-iff-lt-mul, le-div-iff-mul-le}
+use native.Mathlib.Omega.{arith}
+use mathlib.Core.Path.{_≡_, refl, sym, ap, _∙_}
+use mathlib.Core.Logic.{⊎-elim}
+use mathlib.Core.List.{List, [], _∷_, _++_}
+use lib.ListN.{length, getD, take, drop, length-append, length-drop, List·getD-append}
+use lib.Seq.{length-take-le, getD-at, getD-take, getD-drop, ext-getD}
+use lib.Ieee.{Float, nan}
+use Rattle.float.specs.Ops.{_⊘_, eight}
+use Rattle.complex.specs.declared.value.Complex.{Complex}
+use Rattle.complex.specs.Cx.{cNorm, cDiv}
+use Rattle.complex.specs.Rows.{zAt, zFill, zAt-zFill, length-zFill}
+use Rattle.complex.specs.Fill.{fill, fill-cong, getD-fill, length-fill}
+use Rattle.row.specs.Window.{stepOf, windowOf, samples, blocks, stepBlocks}
+use Rattle.row.specs.Blocks.{blockMean}
+use Rattle.row.specs.Amplitudes.{amplitude, runOf, rowOf, rowLength, listOf}
+use Rattle.row.proofs.Running.{run-cong}
+use Rattle.row.proofs.Steps.{step-low}
+
+-- ---- the list of a row
+
+pub length-listOf : (f : ℕ → Float) (n : ℕ) → length (listOf f n) ≡ n
+unfolding listOf
+length-listOf f zero = refl
+length-listOf f (suc n) = simp (length-append, length-listOf f n) (omega arith)
+
+pub getD-listOf : (f : ℕ → Float) (n i : ℕ) (d : Float) → i < n → getD (listOf f n) i d ≡ f i
+unfolding listOf
+getD-listOf f zero i d h = absurd (not-suc-le-zero h)
+getD-listOf f (suc n) i d h =
+    ⊎-elim
+    (λ e. rw e (getD-at (listOf f n) (f n) [] d n (length-listOf f n)))
+    (λ b. List·getD-append (listOf f n) (f n ∷ []) d i (rw (length-listOf f n) b) ∙ getD-listOf f n i d b)
+    (eq-or-lt-of-le (le-of-suc-le-suc h))
+
+-- a row stored in a slice is the list of the row
+pub part-fill : (l : List Float) (at : ℕ) (f : ℕ → Float) (n : ℕ) → at + n ≤ length l → take n (drop at (fill l at f n)) ≡ listOf f n
+part-fill l at f n h =
+    let room : n ≤ length (drop at (fill l at f n)) = simp (length-drop, length-fill) (omega arith) in
+    let long : length (take n (drop at (fill l at f n))) ≡ n = length-take-le n (drop at (fill l at f n)) room in
+    ext-getD nan (take n (drop at (fill l at f n))) (listOf f n) (long ∙ sym (length-listOf f n))
+    (λ i b.
+    let g : i < n = omega arith in
+    getD-take n (drop at (fill l at f n)) i nan g ∙ getD-drop at (fill l at f n) i nan ∙ getD-fill l at f n i nan g h ∙ sym (getD-listOf f n i nan g))
+
+-- ---- the row of the block means
+
+-- the amplitudes are of the means that were stored
+pub row-stored : (w mid end : List Float) (z : ℕ → Complex) (b r : ℕ)
+    → r ≡ b → mid ≡ zFill w 0 z b → end ≡ fill mid (2 * r) (amplitude (zAt mid)) (r - 7) → 8 ≤ b → 3 * b ≤ length w
+    → end ≡ fill (zFill w 0 z b) (2 * b) (amplitude z) (b - 7)
+row-stored w mid end z b r e p q h g =
+    rw (q, p, e)
+    (fill-cong (zFill w 0 z b) (2 * b) (amplitude (zAt (zFill w 0 z b))) (amplitude z) (b - 7)
+    (λ i f. ap (λ (s : Complex). cNorm (cDiv s eight)) (run-cong (zAt (zFill w 0 z b)) z i (λ k j. zAt-zFill w z b k (omega arith) (omega arith)))))
+
+module _ (w end : List Float) (z : ℕ → Complex) (b : ℕ) (e : end ≡ fill (zFill w 0 z b) (2 * b) (amplitude z) (b - 7)) (g : 3 * b ≤ length w) where
+  room : 2 * b + (b - 7) ≤ length (zFill w 0 z b)
+  room = rw (length-zFill w 0 z b) (omega arith)
+
+  pub row-part : take (b - 7) (drop (2 * b) end) ≡ listOf (amplitude z) (b - 7)
+  row-part = rw e (part-fill (zFill w 0 z b) (2 * b) (amplitude z) (b - 7) room)
+
+  pub row-at : (i : ℕ) → i < b - 7 → getD end (2 * b + i) nan ≡ amplitude z i
+  row-at i h = rw e (getD-fill (zFill w 0 z b) (2 * b) (amplitude z) (b - 7) i nan h room)
+
+-- at a rate and a carrier
+pub row-is : (iq : List Float) (fs carrier : Float) → amplitude (blockMean iq (carrier ⊘ fs) (stepOf fs)) ≡ rowOf iq fs carrier
+unfolding rowOf
+row-is iq fs carrier = refl
+
+-- ---- how many amplitudes: none for n < window, and B - 7 is no cut difference from window on
+
+few : (n s : ℕ) → 1 ≤ s → n < 8 * s → n / s < 8
+few n s h g = div-lt-iff-lt-mul h .1 g
+
+pub row-none : (iq : List Float) (fs : Float) → samples iq < windowOf fs → rowLength iq fs ≡ 0
+row-none iq fs h = let few-blocks : stepBlocks iq fs < 8 = few (samples iq) (stepOf fs) (step-low fs) h in omega arith
+
+pub row-some : (iq : List Float) (fs : Float) → windowOf fs ≤ samples iq → 8 ≤ stepBlocks iq fs
+row-some iq fs h = le-div-iff-mul-le (step-low fs) .1 h

@@ -1,0 +1,31 @@
+-- The invariant: b means are stored.
+use Prim.Native.Nat.{_≤_, _-_}
+use mathlib.Core.Path.{_≡_}
+use lib.ListN.{length}
+use Rattle.complex.specs.Rows.{zFill}
+use Rattle.row.specs.Blocks.{blockMean}
+use Rattle.row.proofs.Laws.{laws}
+use Rattle.row.proofs.blocks.block_means.Statement.{statement}
+use Rattle.row.proofs.blocks.block_means.Tie as tie
+
+abbrev Inv-loop : tie.InvT-loop
+Inv-loop iq cyc len out₀ sine n b₀ out b = (b ≤ n) × (length out ≡ length out₀) × (out ≡ zFill out₀ 0 (blockMean iq cyc len) b)
+
+abbrev μ-loop : tie.MeasureT-loop
+μ-loop iq cyc len out₀ sine n b₀ out b = n - b
+
+pub block-means-spec : {M : Type 1} → statement M
+block-means-spec =
+    tie.close
+    (tie.spec
+    Inv-loop
+    μ-loop
+    (λ c. search laws)
+    (λ c. search laws)
+    (λ c κs. search laws)
+    (λ c κs. search laws)
+    (λ c. search laws)
+    (λ c. search laws)
+    (λ c. search laws)
+    (λ c. search laws)
+    (λ c. search laws))
