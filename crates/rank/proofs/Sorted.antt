@@ -1,0 +1,263 @@
+-- The sorted list and the counts agree. What stands at a rank of the sorted list has at most so many of the list before it, and more not after it (`sorted-counts`); and only one f64 has that property (`counts-unique`).
+-- So counting finds the percentile (`percentile-counts`), and so does the key that the counts of keys select (`selected`). Assumes nothing.
+use mathlib.Core.Path.{_≡_, refl, sym, ap, _∙_, subst}
+use mathlib.Core.Logic.{_⊎_, inl, inr}
+use mathlib.Core.Bool.{Bool, true, false, not, cond}
+use mathlib.Core.List.{List, [], _∷_}
+use Prim.Native.Nat.{ℕ, zero, suc, _+_, _-_, _*_, _/_, _%_, _^_, _≤_, _<_, zero-le}
+use native.Mathlib.Nat.{le-of-lt, le-trans, le-of-suc-le-suc, div-one, zero-add}
+use native.Mathlib.Numerals.{add-one}
+use native.Mathlib.Decide.{decLt}
+use native.Mathlib.Omega.{arith}
+use borrow.Author.Tests.{lt-ltb, le-ltb, ltb-true, ltb-false, not-true}
+use lib.Dec.{T, ltb}
+use lib.ListN.{length, getD}
+use lib.Ieee.{Float, nan, binary64, fits}
+use Rattle.rank.specs.Order.{precedes, insert, sorted, countTo, before, upTo}
+use Rattle.rank.specs.Percentile.{rankOf, percentileOf}
+use Rattle.rank.specs.Keys.{keyOf, keyAt, cell, below, Within, Selected, Key, valueOf}
+use Rattle.rank.specs.declared.Percentile.{Percentile}
+use Rattle.rank.specs.declared.Percentile.the-variants.{Value, Nothing}
+use Rattle.rank.proofs.Keyed.{precedes-key, key-injective, value-key, is-key}
+use Rattle.rank.proofs.Counted.{bit, count-cong, count-le, below-next}
+
+-- ---- what holds of every element
+abbrev pub Every : (Float → Type 0) → List Float → Type 0
+Every P [] = Unit {0}
+Every P (x ∷ xs) = P x × Every P xs
+
+-- every element is an f64, as every list that a slice holds is
+abbrev pub Held : List Float → Type 0
+Held l = Every (λ x. T (fits binary64 x)) l
+
+pub held : (l : List Float) → ((i : ℕ) → T (fits binary64 (getD l i nan))) → Held l
+held [] h = tt
+held (x ∷ xs) h = (h 0, held xs (λ (i : ℕ). h (suc i)))
+
+module _ (P : Float → Type 0) where
+  pub every-at : (l : List Float) → Every P l → (i : ℕ) → i < length l → P (getD l i nan)
+  every-at [] h i b = absurd (never b)
+    where
+      never : i < 0 → ⊥
+      never b = omega arith
+  every-at (x ∷ xs) h zero b = h .0
+  every-at (x ∷ xs) h (suc i) b = every-at xs (h .1) i (le-of-suc-le-suc b)
+
+  every-cond : (b : Bool) (l m : List Float) → Every P l → Every P m → Every P (cond b l m)
+  every-cond true l m h k = h
+  every-cond false l m h k = k
+
+  insert-every : (x : Float) (l : List Float) → P x → Every P l → Every P (insert x l)
+  unfolding insert
+  insert-every x [] p h = (p, tt)
+  insert-every x (y ∷ ys) p h = every-cond (precedes x y) (x ∷ y ∷ ys) (y ∷ insert x ys) (p, h) (h .0, insert-every x ys p (h .1))
+
+  sorted-every : (l : List Float) → Every P l → Every P (sorted l)
+  unfolding sorted
+  sorted-every [] h = tt
+  sorted-every (x ∷ xs) h = insert-every x (sorted xs) (h .0) (sorted-every xs (h .1))
+
+-- ---- sorting keeps what is counted
+tallied : (Float → Bool) → List Float → ℕ
+tallied p [] = 0
+tallied p (x ∷ xs) = bit (p x) + tallied p xs
+
+insert-tallied : (p : Float → Bool) (x : Float) (l : List Float) → tallied p (insert x l) ≡ bit (p x) + tallied p l
+unfolding insert tallied
+insert-tallied p x [] = refl
+insert-tallied p x (y ∷ ys) = go (precedes x y) (insert-tallied p x ys)
+  where
+    swap : (a b c : ℕ) → b + (a + c) ≡ a + (b + c)
+    swap a b c = omega arith
+
+    go : (b : Bool) → tallied p (insert x ys) ≡ bit (p x) + tallied p ys → tallied p (cond b (x ∷ y ∷ ys) (y ∷ insert x ys)) ≡ bit (p x) + (bit (p y) + tallied p ys)
+    go true e = refl
+    go false e = ap (λ (z : ℕ). bit (p y) + z) e ∙ swap (bit (p x)) (bit (p y)) (tallied p ys)
+
+sorted-tallied : (p : Float → Bool) (l : List Float) → tallied p (sorted l) ≡ tallied p l
+unfolding sorted tallied
+sorted-tallied p [] = refl
+sorted-tallied p (x ∷ xs) = insert-tallied p x (sorted xs) ∙ ap (λ (z : ℕ). bit (p x) + z) (sorted-tallied p xs)
+
+insert-length : (x : Float) (l : List Float) → length (insert x l) ≡ suc (length l)
+unfolding insert
+insert-length x [] = refl
+insert-length x (y ∷ ys) = go (precedes x y) (insert-length x ys)
+  where
+    go : (b : Bool) → length (insert x ys) ≡ suc (length ys) → length (cond b (x ∷ y ∷ ys) (y ∷ insert x ys)) ≡ suc (suc (length ys))
+    go true e = refl
+    go false e = ap suc e
+
+pub sorted-length : (l : List Float) → length (sorted l) ≡ length l
+unfolding sorted
+sorted-length [] = refl
+sorted-length (x ∷ xs) = insert-length x (sorted xs) ∙ ap suc (sorted-length xs)
+
+-- along the list and by its indices
+count-front : (f : ℕ → Bool) (n : ℕ) → countTo f (suc n) ≡ bit (f 0) + countTo (λ i. f (suc i)) n
+unfolding countTo
+count-front f zero = omega arith
+count-front f (suc n) = ap (λ (z : ℕ). z + bit (f (suc n))) (count-front f n) ∙ omega arith
+
+tallied-count : (p : Float → Bool) (l : List Float) → tallied p l ≡ countTo (λ i. p (getD l i nan)) (length l)
+unfolding countTo tallied
+tallied-count p [] = refl
+tallied-count p (x ∷ xs) = ap (λ (z : ℕ). bit (p x) + z) (tallied-count p xs) ∙ sym (count-front (λ i. p (getD (x ∷ xs) i nan)) (length xs))
+
+-- ---- the sorted list's keys do not fall
+abbrev From : ℕ → List Float → Type 0
+From k l = Every (λ y. k ≤ keyOf y) l
+
+abbrev Rising : List Float → Type 0
+Rising [] = Unit {0}
+Rising (x ∷ xs) = From (keyOf x) xs × Rising xs
+
+from-less : (j k : ℕ) → j ≤ k → (l : List Float) → From k l → From j l
+from-less j k h [] f = tt
+from-less j k h (x ∷ xs) f = (le-trans h (f .0), from-less j k h xs (f .1))
+
+insert-rising : (x : Float) (l : List Float) → T (fits binary64 x) → Held l → Rising l → Rising (insert x l)
+unfolding insert
+insert-rising x [] f h r = (tt, tt)
+insert-rising x (y ∷ ys) f h r = go (precedes x y) (precedes-key x y f (h .0)) (insert-rising x ys f (h .1) (r .1))
+  where
+    go : (b : Bool) → b ≡ ltb (keyOf x) (keyOf y) → Rising (insert x ys) → Rising (cond b (x ∷ y ∷ ys) (y ∷ insert x ys))
+    go true e rest = let l : keyOf x ≤ keyOf y = le-of-lt (ltb-true (keyOf x) (keyOf y) (sym e)) in ((l, from-less (keyOf x) (keyOf y) l ys (r .0)), r)
+    go false e rest = (insert-every (λ z. keyOf y ≤ keyOf z) x ys (ltb-false (keyOf x) (keyOf y) (sym e)) (r .0), rest)
+
+sorted-rising : (l : List Float) → Held l → Rising (sorted l)
+unfolding sorted
+sorted-rising [] h = tt
+sorted-rising (x ∷ xs) h = insert-rising x (sorted xs) (h .0) (sorted-every (λ y. T (fits binary64 y)) xs (h .1)) (sorted-rising xs (h .1))
+
+-- ---- what a rising list has below and up to the key at a place
+none-below : (k : ℕ) (l : List Float) → From k l → tallied (λ y. ltb (keyOf y) k) l ≡ 0
+unfolding tallied
+none-below k [] f = refl
+none-below k (x ∷ xs) f = rw (le-ltb (keyOf x) k (f .0), zero-add) (none-below k xs (f .1))
+
+rising-at : (l : List Float) → Rising l → (r : ℕ) → r < length l →
+    (tallied (λ y. ltb (keyOf y) (keyOf (getD l r nan))) l ≤ r) × (r < tallied (λ y. not (ltb (keyOf (getD l r nan)) (keyOf y))) l)
+unfolding tallied
+rising-at [] h r b = absurd (never b)
+  where
+    never : r < 0 → ⊥
+    never b = omega arith
+rising-at (x ∷ xs) h zero b =
+    let s : ltb (keyOf x) (keyOf x) ≡ false = le-ltb (keyOf x) (keyOf x) (omega arith) in
+    (rw (s, none-below (keyOf x) xs (h .0)) (omega arith), rw s (omega arith))
+rising-at (x ∷ xs) h (suc r) b =
+    let k = keyOf (getD xs r nan) in
+    let i = rising-at xs (h .1) r (le-of-suc-le-suc b) in
+    let s : ltb k (keyOf x) ≡ false = le-ltb k (keyOf x) (every-at (λ y. keyOf x ≤ keyOf y) xs (h .0) r (le-of-suc-le-suc b)) in
+    (step (ltb (keyOf x) k) (i .0), rw s (omega (arith, i .1)))
+  where
+    step : (b : Bool) {t : ℕ} → t ≤ r → bit b + t ≤ suc r
+    step true h = omega arith
+    step false h = omega arith
+
+-- ---- the key at a rank, by counts of keys
+abbrev Ranked : (ℕ → ℕ) → ℕ → ℕ → ℕ → Type 0
+Ranked key n r k = (countTo (λ i. ltb (key i) k) n ≤ r) × (r < countTo (λ i. not (ltb k (key i))) n)
+
+ranked-unique : (key : ℕ → ℕ) (n r j k : ℕ) → Ranked key n r j → Ranked key n r k → j ≡ k
+ranked-unique key n r j k g h = go (decLt j k) (decLt k j)
+  where
+    apart : (j k : ℕ) → j < k → Ranked key n r j → Ranked key n r k → ⊥
+    apart j k l g h =
+        let m : countTo (λ i. not (ltb j (key i))) n ≤ countTo (λ i. ltb (key i) k) n =
+        count-le (λ i. not (ltb j (key i))) (λ i. ltb (key i) k) n (λ (i : ℕ) (_ : i < n) (e : not (ltb j (key i)) ≡ true). let b : key i ≤ j = ltb-false j (key i) (not-true (ltb j (key i)) e) in lt-ltb (key i) k (omega arith)) in
+        omega (arith, g .1, h .0)
+
+    go : Dec (j < k) → Dec (k < j) → j ≡ k
+    go (yes l) _ = absurd (apart j k l g h)
+    go (no _) (yes l) = absurd (apart k j l h g)
+    go (no a) (no b) = omega arith
+
+sorted-ranked : (l : List Float) → Held l → (r : ℕ) → r < length l → Ranked (keyAt l) (length l) r (keyOf (getD (sorted l) r nan))
+sorted-ranked l h r b =
+    let k = keyOf (getD (sorted l) r nan) in
+    let i = rising-at (sorted l) (sorted-rising l h) r (subst (λ (n : ℕ). r < n) (sym (sorted-length l)) b) in (
+      subst (λ (n : ℕ). n ≤ r) (sorted-tallied (λ y. ltb (keyOf y) k) l ∙ tallied-count (λ y. ltb (keyOf y) k) l) (i .0),
+      subst (λ (n : ℕ). r < n) (sorted-tallied (λ y. not (ltb k (keyOf y))) l ∙ tallied-count (λ y. not (ltb k (keyOf y))) l) (i .1),
+    )
+
+-- ---- in terms of the order
+module _ (l : List Float) (h : Held l) (x : Float) (f : T (fits binary64 x)) where
+  before-keys : before l x ≡ countTo (λ i. ltb (keyAt l i) (keyOf x)) (length l)
+  unfolding before
+  before-keys = count-cong (λ i. precedes (getD l i nan) x) (λ i. ltb (keyAt l i) (keyOf x)) (length l) (λ (i : ℕ) (b : i < length l). precedes-key (getD l i nan) x (every-at (λ y. T (fits binary64 y)) l h i b) f)
+
+  upTo-keys : upTo l x ≡ countTo (λ i. not (ltb (keyOf x) (keyAt l i))) (length l)
+  unfolding upTo
+  upTo-keys = count-cong (λ i. not (precedes x (getD l i nan))) (λ i. not (ltb (keyOf x) (keyAt l i))) (length l) (λ (i : ℕ) (b : i < length l). ap not (precedes-key x (getD l i nan) f (every-at (λ y. T (fits binary64 y)) l h i b)))
+
+  ranked : (r : ℕ) → before l x ≤ r → r < upTo l x → Ranked (keyAt l) (length l) r (keyOf x)
+  ranked r a b = (subst (λ (n : ℕ). n ≤ r) before-keys a, subst (λ (n : ℕ). r < n) upTo-keys b)
+
+pub sorted-held : (l : List Float) → Held l → (r : ℕ) → r < length l → T (fits binary64 (getD (sorted l) r nan))
+sorted-held l h r b = every-at (λ y. T (fits binary64 y)) (sorted l) (sorted-every (λ y. T (fits binary64 y)) l h) r (subst (λ (n : ℕ). r < n) (sym (sorted-length l)) b)
+
+pub sorted-counts : (l : List Float) → Held l → (r : ℕ) → r < length l → (before l (getD (sorted l) r nan) ≤ r) × (r < upTo l (getD (sorted l) r nan))
+sorted-counts l h r b =
+    let x = getD (sorted l) r nan in
+    let f = sorted-held l h r b in
+    let i = sorted-ranked l h r b in
+    (subst (λ (n : ℕ). n ≤ r) (sym (before-keys l h x f)) (i .0), subst (λ (n : ℕ). r < n) (sym (upTo-keys l h x f)) (i .1))
+
+pub counts-unique : (l : List Float) → Held l → (r : ℕ) (x y : Float) → T (fits binary64 x) → T (fits binary64 y) →
+    before l x ≤ r → r < upTo l x → before l y ≤ r → r < upTo l y → x ≡ y
+counts-unique l h r x y f g a b c d = key-injective x y f g (ranked-unique (keyAt l) (length l) r (keyOf x) (keyOf y) (ranked l h x f r a b) (ranked l h y g r c d))
+
+-- ---- the percentile
+pub rank-lt : (n : ℕ) (p : Float) → 0 < n → rankOf n p < n
+unfolding rankOf
+rank-lt n p h = omega arith
+
+pub percentile-none : (l : List Float) (p : Float) → length l ≡ 0 → Nothing ≡ percentileOf l p
+unfolding percentileOf
+percentile-none [] p e = refl
+percentile-none (x ∷ xs) p e = absurd (never (length xs) e)
+  where
+    never : (n : ℕ) → suc n ≡ 0 → ⊥
+    never n e = omega arith
+
+pub percentile-some : (l : List Float) (p : Float) → 0 < length l → Value (getD (sorted l) (rankOf (length l) p) nan) ≡ percentileOf l p
+unfolding percentileOf
+percentile-some [] p h = absurd (never h)
+  where
+    never : 0 < 0 → ⊥
+    never h = omega arith
+percentile-some (x ∷ xs) p h = refl
+
+pub percentile-counts : (l : List Float) (p x : Float) → Held l → T (fits binary64 x) → 0 < length l → before l x ≤ rankOf (length l) p → rankOf (length l) p < upTo l x → percentileOf l p ≡ Value x
+percentile-counts l p x h f b i j =
+    let r = rankOf (length l) p in
+    let s : r < length l = rank-lt (length l) p b in
+    let c = sorted-counts l h r s in
+    sym (percentile-some l p b) ∙ ap Value (counts-unique l h r (getD (sorted l) r nan) x (sorted-held l h r s) f (c .0) (c .1) i j)
+
+-- ---- from the cell of one key
+up-to : (x k : ℕ) → ltb x (k + 1) ≡ not (ltb k x)
+up-to x k = go (decLt k x)
+  where
+    go : Dec (k < x) → ltb x (k + 1) ≡ not (ltb k x)
+    go (yes h) = le-ltb x (k + 1) (omega arith) ∙ sym (ap not (lt-ltb k x h))
+    go (no h) = lt-ltb x (k + 1) (omega arith) ∙ sym (ap not (le-ltb k x (omega arith)))
+
+within-ranked : (l : List Float) (r k left : ℕ) → Within l 1 r k left → Ranked (keyAt l) (length l) r k
+unfolding below
+within-ranked l r k left w =
+    let a = count-cong (λ i. ltb (keyAt l i / 1) k) (λ i. ltb (keyAt l i) k) (length l) (λ (i : ℕ) (_ : i < length l). ap (λ (x : ℕ). ltb x k) (div-one (keyAt l i))) in
+    let b = count-cong (λ i. ltb (keyAt l i / 1) (k + 1)) (λ i. not (ltb k (keyAt l i))) (length l) (λ (i : ℕ) (_ : i < length l). ap (λ (x : ℕ). ltb x (k + 1)) (div-one (keyAt l i)) ∙ up-to (keyAt l i) k) in
+    (omega (arith, a, w .under), omega (arith, b, w .under, w .inside, below-next (keyAt l) (length l) 1 k))
+
+pub selected : (l : List Float) → Held l → (r k left : ℕ) → r < length l → Within l 1 r k left → Selected l r k
+selected l h r k left b w = record { same = ranked-unique (keyAt l) (length l) r k (keyOf (getD (sorted l) r nan)) (within-ranked l r k left w) (sorted-ranked l h r b); held = sorted-held l h r b }
+
+pub selected-key : {l : List Float} {r k : ℕ} → Selected l r k → Key k
+selected-key {l} {r} s = subst Key (sym (s .same)) (is-key (getD (sorted l) r nan) (s .held))
+
+pub percentile-selected : (l : List Float) (p : Float) (r k : ℕ) (v : Float) → 0 < length l → r ≡ rankOf (length l) p → Selected l r k → v ≡ valueOf k → Value v ≡ percentileOf l p
+percentile-selected l p r k v h e s i =
+    ap Value (i ∙ ap valueOf (s .same) ∙ value-key (getD (sorted l) r nan) (s .held) ∙ ap (λ (j : ℕ). getD (sorted l) j nan) e) ∙ percentile-some l p h

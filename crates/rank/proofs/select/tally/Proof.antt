@@ -1,0 +1,86 @@
+-- `rank::select::tally` meets its contract. Assumes nothing.
+use Prim.Native.Nat.{ℕ, _+_, _-_, _*_, _/_, _^_, _≤_, _<_}
+use mathlib.Core.Path.{_≡_, sym, ap, _∙_, subst}
+use native.Mathlib.Omega.{arith}
+use borrow.Author.Needs.{needs}
+use lib.Dec.{eqb}
+use lib.ListN.{length}
+use Rattle.rank.specs.Keys.{Histogram}
+use Rattle.rank.proofs.Counted.{histogram-turn, histogram-room}
+use Rattle.rank.proofs.select.tally.Statement.{statement}
+use Rattle.rank.proofs.select.tally.Tie as tie
+
+abbrev Inv-loop : tie.InvT-loop
+Inv-loop v s p hist₀ i₀ i-end hist i = (i ≤ length v) × Histogram v (2 ^ s) p i hist
+
+abbrev μ-loop : tie.MeasureT-loop
+μ-loop v s p hist₀ i₀ i-end hist i = length v - i
+
+loop-holds : tie.Need-loop-holds Inv-loop μ-loop
+loop-holds c = search needs
+
+mul-key : tie.Need-mul-key Inv-loop μ-loop
+mul-key c = search needs
+
+shared-slice-read-key : tie.Need-shared-slice-read-key Inv-loop μ-loop
+shared-slice-read-key c = search needs
+
+key-requires : tie.Need-key-requires Inv-loop μ-loop
+key-requires c κs = search needs
+
+shr-h : tie.Need-shr-h Inv-loop μ-loop
+shr-h c = search needs
+
+cast-m : tie.Need-cast-m Inv-loop μ-loop
+cast-m c = search needs
+
+mul-hist : tie.Need-mul-hist Inv-loop μ-loop
+mul-hist c = search needs
+
+element-copy-out-hist : tie.Need-element-copy-out-hist Inv-loop μ-loop
+element-copy-out-hist c = search needs
+
+add-hist : tie.Need-add-hist Inv-loop μ-loop
+add-hist c =
+    let a = c .before .before .before .before .before .before .args in
+    record { fits = histogram-room (c .before .before .before .before .loop .inv .1) (omega arith) _ (omega arith) (eqb (c .before .key .result / 2 ^ a .s / 2048) (a .p)) }
+
+mul-hist-2 : tie.Need-mul-hist-2 Inv-loop μ-loop
+mul-hist-2 c = search needs
+
+element-write-hist : tie.Need-element-write-hist Inv-loop μ-loop
+element-write-hist c = search needs
+
+add-i : tie.Need-add-i Inv-loop μ-loop
+add-i c = search needs
+
+loop-less : tie.Need-loop-less Inv-loop μ-loop
+loop-less c = search needs
+
+loop-again : tie.Need-loop-again Inv-loop μ-loop
+loop-again c = (search needs, histogram-turn (c .before .before .before .before .loop .inv .1) (c .before .key .ensures))
+
+returns : tie.Need-returns Inv-loop μ-loop
+returns c = subst (λ (n : ℕ). Histogram (c .before .before .before .args .v .now) (2 ^ c .before .before .before .args .s) (c .before .before .before .args .p) n (c .before .loop .hist)) (omega arith) (c .before .loop .inv .1)
+
+pub tally-spec : {M : Type 1} → statement M
+tally-spec =
+    tie.close
+    (tie.spec
+    Inv-loop
+    μ-loop
+    loop-holds
+    mul-key
+    shared-slice-read-key
+    key-requires
+    shr-h
+    cast-m
+    mul-hist
+    element-copy-out-hist
+    add-hist
+    mul-hist-2
+    element-write-hist
+    add-i
+    loop-less
+    loop-again
+    returns)

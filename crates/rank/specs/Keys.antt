@@ -1,0 +1,69 @@
+-- What the functions that `percentile` is made of ensure: whole numbers in the order of the values, and how many of them lie in a cell. Definitions only.
+use Prim.Native.Nat.{ℕ, zero, suc, _+_, _-_, _*_, _/_, _^_, _≤_, _<_}
+use mathlib.Core.Path.{_≡_}
+use mathlib.Core.Logic.{_⊎_}
+use mathlib.Core.Bool.{cond}
+use mathlib.Core.List.{List}
+use lib.Dec.{T, ltb, eqb}
+use lib.ListN.{length, getD}
+use lib.Ieee.{Float, nan, binary64, isNan, fits, toBits, ofBits}
+use Rattle.rank.specs.Order.{sorted, countTo}
+
+-- The key of a bit pattern: from 2^63 up without the sign, and from there down with it. A NaN's is the largest.
+abbrev pub keyBits : ℕ → ℕ
+keyBits b = cond (ltb b (2 ^ 63)) (b + 2 ^ 63) (2 ^ 64 - 1 - b)
+
+unfoldable pub keyOf : Float → ℕ
+keyOf x = cond (isNan x) (2 ^ 64 - 1) (keyBits (toBits binary64 x))
+
+-- the value of a key
+unfoldable pub valueOf : ℕ → Float
+valueOf k = cond (eqb k (2 ^ 64 - 1)) nan (ofBits binary64 (cond (ltb k (2 ^ 63)) (2 ^ 64 - 1 - k) (k - 2 ^ 63)))
+
+-- a key that some value has: a NaN's, or one from −∞'s to +∞'s
+abbrev pub Key : ℕ → Type 0
+Key k = (k ≡ 2 ^ 64 - 1) ⊎ ((0x000f_ffff_ffff_ffff ≤ k) × (k ≤ 0xfff0_0000_0000_0000))
+
+abbrev pub keyAt : List Float → ℕ → ℕ
+keyAt l i = keyOf (getD l i nan)
+
+-- Of the first n keys, how many lie in the cell v of width w, from v * w on, and how many below it
+unfoldable pub cell : (ℕ → ℕ) → ℕ → ℕ → ℕ → ℕ
+unfolding countTo
+cell key w v n = countTo (λ i. eqb (key i / w) v) n
+
+unfoldable pub below : (ℕ → ℕ) → ℕ → ℕ → ℕ → ℕ
+unfolding countTo
+below key w v n = countTo (λ i. ltb (key i / w) v) n
+
+-- a histogram of the first n keys: the 2048 cells of width w that the cell p of width 2048 * w is made of
+pub record Histogram (l : List Float) (w p n : ℕ) (hist : List ℕ) : Type 0 where
+  pub long : length hist ≡ 2048
+  pub counts : (d : ℕ) → d < 2048 → getD hist d 0 ≡ cell (keyAt l) w (p * 2048 + d) n
+
+-- the first d numbers of a list, added up
+unfoldable pub sumTo : List ℕ → ℕ → ℕ
+sumTo l zero = 0
+sumTo l (suc d) = sumTo l d + getD l d 0
+
+-- where the sum passes a rank, and what is left of the rank there
+pub record Passed (l : List ℕ) (rank digit left : ℕ) : Type 0 where
+  pub digit-lt : digit < 2048
+  pub sum : sumTo l digit + left ≡ rank
+  pub left-lt : left < getD l digit 0
+
+-- one digit more of the key at a rank, and what is left of the rank in its cell. p are the digits above it.
+pub record Narrowed (l : List Float) (w p rank digit left : ℕ) : Type 0 where
+  pub digit-lt : digit < 2048
+  pub under : below (keyAt l) w (p * 2048 + digit) (length l) + left ≡ below (keyAt l) (w * 2048) p (length l) + rank
+  pub inside : left < cell (keyAt l) w (p * 2048 + digit) (length l)
+
+-- the rank lies in the cell v of width w, and is `left` counted from the cell's first
+pub record Within (l : List Float) (w rank v left : ℕ) : Type 0 where
+  pub under : below (keyAt l) w v (length l) + left ≡ rank
+  pub inside : left < cell (keyAt l) w v (length l)
+
+-- the key of the value at a rank, and that value is an f64
+pub record Selected (l : List Float) (rank k : ℕ) : Type 0 where
+  pub same : k ≡ keyOf (getD (sorted l) rank nan)
+  pub held : T (fits binary64 (getD (sorted l) rank nan))

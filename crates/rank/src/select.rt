@@ -1,0 +1,154 @@
+// The percentile of a list, without sorting it and without moving anything: every value has a key, a
+// whole number of 64 bits, and the keys are in `total_cmp` order. The key at a rank is found from its
+// highest digit down, each digit by one pass that counts.
+use crate::Percentile;
+ghost use mathlib.Core.Path.{_≡_};
+ghost use Prim.Native.Nat.{_+_, _*_, _^_, _<_, _≤_};
+ghost use lib.ListN.{length, getD};
+ghost use Rattle.rank.specs.Percentile.{rankOf, percentileOf};
+ghost use Rattle.rank.specs.Keys.{
+  keyOf,
+  valueOf,
+  Key,
+  keyAt,
+  cell,
+  Histogram,
+  sumTo,
+  Passed,
+  Narrowed,
+  Selected,
+};
+
+// A digit of the key at a rank, and the rank that is left among the values with this digit.
+struct Place {
+    digit: u64,
+    left: u64,
+}
+
+fn key(x: f64) -> u64
+    ensures { λ r. ⌜ r ≡ keyOf x ⌝ }
+{
+    if x != x {
+        return 0xffff_ffff_ffff_ffff;
+    }
+    let b = f64::to_bits(x);
+    if b < 0x8000_0000_0000_0000 {
+        b + 0x8000_0000_0000_0000
+    } else {
+        0xffff_ffff_ffff_ffff - b
+    }
+}
+
+fn value(k: u64) -> f64
+    requires { ⌜ Key k ⌝ }
+    ensures { λ r. ⌜ r ≡ valueOf k ⌝ }
+{
+    if k == 0xffff_ffff_ffff_ffff {
+        return 0.0 / 0.0;
+    }
+    if k < 0x8000_0000_0000_0000 {
+        f64::from_bits(0xffff_ffff_ffff_ffff - k)
+    } else {
+        f64::from_bits(k - 0x8000_0000_0000_0000)
+    }
+}
+
+// How often each digit at s comes among the values whose key begins with p.
+fn tally(v: &[f64], s: u64, p: u64, hist: &mut [u32; 2048])
+    requires { ⌜ length (now v) ≤ 2097152 ⌝ }
+    requires { ⌜ s < 64 ⌝ }
+    requires { ⌜ Histogram (now v) (2 ^ s) p 0 (now hist) ⌝ }
+    ensures { λ _. ⌜ Histogram (now (v .entry)) (2 ^ s) p (length (now (v .entry))) (now (hist .exit)) ⌝ }
+{
+    for i in 0..v.len() {
+        let h = key(v[i]) >> s;
+        let d = (h % 2048) as usize;
+        let m = (h / 2048 == p) as u32;
+        hist[d] = hist[d] + m;
+    }
+}
+
+fn wide(x: u32) -> u64
+    ensures { λ r. ⌜ r ≡ x ⌝ }
+{
+    x as u64
+}
+
+// The digit at which the running count passes the rank.
+fn walk(hist: &[u32; 2048], rank: u64) -> Place
+    requires { ⌜ rank < sumTo (now hist) 2048 ⌝ }
+    ensures { λ r. ⌜ Passed (now (hist .entry)) rank (r .digit) (r .left) ⌝ }
+{
+    let mut d: usize = 0;
+    let mut left = rank;
+    while d < 2047 {
+        let c = wide(hist[d]);
+        if left < c {
+            return Place {
+                digit: d as u64,
+                left,
+            };
+        }
+        left = left - c;
+        d = d + 1;
+    }
+    Place {
+        digit: d as u64,
+        left,
+    }
+}
+
+// One digit of the key at a rank: p are the digits above it, and the rank counts from the first of
+// the values that begin with them.
+fn pass(v: &[f64], s: u64, p: u64, rank: u64) -> Place
+    requires { ⌜ length (now v) ≤ 2097152 ⌝ }
+    requires { ⌜ s < 64 ⌝ }
+    requires { ⌜ rank < cell (keyAt (now v)) (2 ^ s * 2048) p (length (now v)) ⌝ }
+    ensures { λ r. ⌜ Narrowed (now (v .entry)) (2 ^ s) p rank (r .digit) (r .left) ⌝ }
+{
+    let mut hist = [0u32; 2048];
+    tally(v, s, p, &mut hist);
+    walk(&hist, rank)
+}
+
+// The key at a rank, in six digits of 11 bits, of which the first has two bits too many.
+fn select(v: &[f64], rank: u64) -> u64
+    requires { ⌜ length (now v) ≤ 2097152 ⌝ }
+    requires { ⌜ rank < length (now v) ⌝ }
+    ensures { λ r. ⌜ Selected (now (v .entry)) rank r ⌝ }
+{
+    let mut s: u64 = 66;
+    let mut k: u64 = 0;
+    let mut left = rank;
+    while 0 < s {
+        s = s - 11;
+        let step = pass(v, s, k, left);
+        k = k * 2048 + step.digit;
+        left = step.left;
+    }
+    k
+}
+
+// Where in the sorted list the p-th part of it ends: round((count - 1) * p), and at most count - 1.
+fn rank(count: usize, p: f64) -> usize
+    requires { ⌜ 0 < count ⌝ }
+    requires { ⌜ count ≤ 2097152 ⌝ }
+    ensures { λ r. ⌜ r ≡ rankOf count p ⌝ }
+{
+    let last = count - 1;
+    let r = float::to_whole(float::round(float::whole::exact(last) * p));
+    if r < last { r } else { last }
+}
+
+// Rust: percentile, which sorts its list in place.
+pub fn percentile(v: &[f64], p: f64) -> Percentile
+    requires { ⌜ length (now v) ≤ 2097152 ⌝ }
+    ensures { λ r. ⌜ r ≡ percentileOf (now (v .entry)) p ⌝ }
+{
+    if v.len() == 0 {
+        return Percentile::Nothing;
+    }
+    let r = rank(v.len(), p);
+    let k = select(v, r as u64);
+    Percentile::Value(value(k))
+}
