@@ -1,9 +1,9 @@
--- `(x + 2 ^ 52) - 2 ^ 52`, for x from 0 up to 2 ^ 52, is a whole number: x's whole part or one more (`rounded-whole`). It rests on `round-at-one`: from 2 ^ 52 up to 2 ^ 53 binary64 rounds to whole numbers.
+-- `(x + 2 ^ 52) - 2 ^ 52`, for x from 0 up to 2 ^ 52, is a whole number: x's whole part or one more (`rounded-whole`), and what x is over or under it is exact (`bounce-is`). It rests on `round-at-one`: from 2 ^ 52 up to 2 ^ 53 binary64 rounds to whole numbers.
 -- Assumes nothing.
 use mathlib.Core.Path.{_≡_, refl, sym, ap, _∙_, subst}
-use mathlib.Core.Logic.{inl, inr}
+use mathlib.Core.Logic.{_⊎_, inl, inr}
 use Prim.Native.Nat.{ℕ, zero, suc, _+_, _-_, _*_, _/_, _%_, _^_, _≤_, _<_, compare, Ordering, Ordering·lt, Ordering·eq, Ordering·gt}
-use native.Mathlib.Nat.{le-trans, le-of-eq, le-of-lt, lt-of-lt-of-le, lt-of-le-of-lt, lt-of-not-le, not-le-of-lt, mul-pos, mul-one, one-mul, mul-comm, mul-assoc, mul-right-comm, mul-sub, mul-le-mul-right, mul-lt-mul-of-pos-right, eq-of-mul-eq-mul-right, add-mul-div-right, add-mul-mod-self-right, div-lt-iff-lt-mul, le-div-iff-mul-le, div-mul-le-self}
+use native.Mathlib.Nat.{div-add-mod', mod-lt, suc-mul, eq-zero-or-pos, le-trans, le-of-eq, le-of-lt, lt-of-lt-of-le, lt-of-le-of-lt, lt-of-not-le, not-le-of-lt, mul-pos, mul-one, one-mul, mul-comm, mul-assoc, mul-right-comm, mul-sub, mul-le-mul-right, mul-lt-mul-of-pos-right, eq-of-mul-eq-mul-right, add-mul-div-right, add-mul-mod-self-right, div-lt-iff-lt-mul, le-div-iff-mul-le, div-mul-le-self}
 use native.Mathlib.Omega.{arith}
 use mathlib.Core.Bool.{Bool, true, false, not, cond, true≢false}
 use lib.IntN.{ℤ, pos}
@@ -16,9 +16,12 @@ use lib.Ieee.Exact.{HasValue, units-val}
 use lib.Ieee.Nearest.{closest, closest-same, nearest-ge}
 use lib.Ieee.Scale.{round-same}
 use lib.Ieee.Back.{round-whole, unsigned-back}
-use Rattle.float.proofs.Patterns.{Cmp, cmp}
-use Rattle.float.proofs.Compared.{nought, lt→cross, nlt→cross, unsigned-value}
-use Rattle.float.proofs.Wholes.{limit, small, in-float}
+use Rattle.float.proofs.Sums.{sub-over, sum-less, sum-more}
+use Rattle.float.proofs.Counts.{whole-is, whole-value}
+use Rattle.float.proofs.Digits.{size-gt, Cmp, cmp}
+
+abbrev pub limit : Float
+limit = fin false 1 (pos 52)
 
 -- ---- one value as two fractions
 pub revalue : (x : Float) (s : Bool) (a c b d : ℕ) → 0 < c → a * d ≡ b * c → HasValue x s a c → HasValue x s b d
@@ -31,9 +34,6 @@ revalue (fin t m e) s a c b d C h v = (
 )
 
 -- ---- where the unit is 1
-size-gt : (n j : ℕ) → 2 ^ j ≤ n → j < size n
-size-gt n j h = lt-of-not-le (λ (g : size n ≤ j). not-le-of-lt (lt-of-lt-of-le (size-lt n) (pow-mono g)) h)
-
 pub closest-bounds : (a c : ℕ) → (a / c ≤ closest a c) × (closest a c ≤ suc (a / c))
 closest-bounds a c = (nearest-ge (a / c) (compare (a % c * 2) c), nearest-le (a / c) (compare (a % c * 2) c))
 
@@ -69,14 +69,6 @@ plus m e =
     ∙ ap (λ (z : ℕ). round binary64 false (m * up e + 2 ^ 52 * down e) z) (mul-one (down e))
 
 -- ---- 2 ^ 52 less
-pick : (f : Format) (a b c : ℕ) → b ≤ a → sum f false a true b c ≡ round f false (a - b) c
-unfolding sum
-pick f a b c h = go (ltb a b) (ltb→lt a b)
-  where
-    go : (t : Bool) → (T t → a < b) → cond t (round f true (b - a) c) (round f false (a - b) c) ≡ round f false (a - b) c
-    go true k = absurd (not-le-of-lt (k tt) h)
-    go false k = refl
-
 less-open : (n : ℕ) (d : ℤ) → sub binary64 (fin false n d) limit ≡ sum binary64 false (n * up d * 1) true (2 ^ 52 * down d) (down d * 1)
 unfolding sub
 less-open n d = refl
@@ -87,7 +79,7 @@ less (inf s) A v h = absurd v
 less (fin true n d) A v h = absurd (true≢false (v .0))
 less (fin false n d) A v h =
     less-open n d
-    ∙ pick binary64 (n * up d * 1) (2 ^ 52 * down d) (down d * 1) (le-trans (mul-le-mul-right (down d) h) (le-of-eq (sym (v .1))))
+    ∙ sum-less binary64 (n * up d * 1) (2 ^ 52 * down d) (down d * 1) (le-trans (mul-le-mul-right (down d) h) (le-of-eq (sym (v .1))))
     ∙ ap (λ (z : ℕ). round binary64 false (z - 2 ^ 52 * down d) (down d * 1)) (v .1)
     ∙ round-same binary64 false (A * down d - 2 ^ 52 * down d) (down d * 1) (A - 2 ^ 52) 1 (mul-pos (down-pos d) (lit< tt)) (lit< tt) (same A (down d))
   where
@@ -102,10 +94,6 @@ less (fin false n d) A v h =
 
 abbrev pub bounced : Float → Float
 bounced x = sub binary64 (add binary64 x limit) limit
-
-whole : (n : ℕ) → round binary64 false n 1 ≡ ofInt binary64 (pos n)
-unfolding ofInt
-whole n = refl
 
 -- one more than the whole part only where the fraction is a half at least
 half-up : (w r c : ℕ) (o : Ordering) → Cmp o (r * 2) c → nearest w o ≡ suc w → c ≤ r * 2
@@ -127,7 +115,7 @@ rounded-whole m e h =
     let q : A / c ≡ a / c + 2 ^ 52 = add-mul-div-right a (2 ^ 52) C in
     let b = closest-bounds A c in
     let v : HasValue (add binary64 (fin false m e) limit) false B 1 = subst (λ (z : Float). HasValue z false B 1) (sym (plus m e)) (round-at-one A c C (low-end a (2 ^ 52 * c)) (high-end a c h)) in
-    (B - 2 ^ 52, less (add binary64 (fin false m e) limit) B v (enough (A / c) (a / c) B q (b .0)) ∙ whole (B - 2 ^ 52), at-least (A / c) (a / c) B q (b .0), at-most (A / c) (a / c) B q (b .1), λ k. subst (λ (r : ℕ). c ≤ r * 2) (add-mul-mod-self-right a (2 ^ 52) c) (half-up (A / c) (A % c) c (compare (A % c * 2) c) (cmp (A % c * 2) c) (up-one (A / c) (a / c) B q k)))
+    (B - 2 ^ 52, less (add binary64 (fin false m e) limit) B v (enough (A / c) (a / c) B q (b .0)) ∙ whole-is binary64 (B - 2 ^ 52), at-least (A / c) (a / c) B q (b .0), at-most (A / c) (a / c) B q (b .1), λ k. subst (λ (r : ℕ). c ≤ r * 2) (add-mul-mod-self-right a (2 ^ 52) c) (half-up (A / c) (A % c) c (compare (A % c * 2) c) (cmp (A % c * 2) c) (up-one (A / c) (a / c) B q k)))
   where
     low-end : (a p : ℕ) → p ≤ a + p
     low-end a p = omega arith
@@ -147,46 +135,51 @@ rounded-whole m e h =
     at-most : (x q B : ℕ) → x ≡ q + 2 ^ 52 → B ≤ suc x → B - 2 ^ 52 ≤ suc q
     at-most x q B e h = omega arith
 
--- ---- what `cut_small` needs, of x above zero and below 2 ^ 52
-pub record Bounced (x : Float) : Type 0 where
-  pub fine : T (inUnsigned binary64 64 (bounced x))
-  pub over : T (lt x (bounced x)) → toUnsigned 64 (bounced x) ≡ toUnsigned 64 x + 1
-  pub exact : T (not (lt x (bounced x))) → toUnsigned 64 (bounced x) ≡ toUnsigned 64 x
+-- ---- that whole number, and what x is over or under it: with q and r / c the whole part and the fraction of x, it is q and x is r / c over it, or it is q + 1, r / c is a half at least, and x is 1 - r / c under it
+abbrev pub gap : Float → Float
+gap x = sub binary64 x (bounced x)
 
-pub value-of : (n : ℕ) → n ≤ 2 ^ 53 → HasValue (ofInt binary64 (pos n)) false n 1
-unfolding ofInt
-value-of n h = round-whole binary64 false n h
+pub data Bounce (x : Float) (q r c : ℕ) : Type 0 where
+  over : bounced x ≡ ofInt binary64 (pos q) → gap x ≡ round binary64 false r c → Bounce x q r c
+  under : bounced x ≡ ofInt binary64 (pos (suc q)) → c ≤ r * 2 → gap x ≡ round binary64 true (c - r) c → Bounce x q r c
 
-bounced-at : (m : ℕ) (e : ℤ) → m * up e < 2 ^ 52 * down e → Bounced (fin false m e)
-bounced-at m e h =
-    let x = fin false m e in
-    let a = m * up e in
-    let c = down e in
-    let C = down-pos e in
+pub bounce-is : (m : ℕ) (e : ℤ) → m * up e < 2 ^ 52 * down e → Bounce (fin false m e) (m * up e / down e) (m * up e % down e) (down e)
+bounce-is m e h =
     let w = rounded-whole m e h in
     let K = w .0 in
-    let K-le : K ≤ 2 ^ 53 = room K (a / c) (w .3) (div-lt-iff-lt-mul C .1 h) in
-    let u = unsigned-back binary64 64 K (in-float K K-le) (wide K K-le) in
-    let is : toUnsigned 64 (bounced x) ≡ K = ap (λ (z : Float). toUnsigned 64 z) (w .1) ∙ u .1 in
-    let x-is : toUnsigned 64 x ≡ a / c = unsigned-value 64 x a c C (refl, refl) (lt-of-lt-of-le h (mul-le-mul-right c (lit≤ tt))) in
-    let v : HasValue (bounced x) false K 1 = subst (λ (z : Float). HasValue z false K 1) (sym (w .1)) (value-of K K-le) in
-    record {
-      fine = subst (λ (z : Float). T (inUnsigned binary64 64 z)) (sym (w .1)) (u .0);
-      over = λ t. is ∙ above K (a / c) (w .3) (lt-of-not-le (λ (g : K ≤ a / c). not-le-of-lt (lt→cross x (bounced x) a c K 1 C (lit< tt) (refl, refl) v t) (le-trans (le-div-iff-mul-le C .0 g) (le-of-eq (sym (mul-one a)))))) ∙ ap (λ (z : ℕ). z + 1) (sym x-is);
-      exact = λ t. is ∙ same K (a / c) (w .2) (le-div-iff-mul-le C .1 (le-trans (nlt→cross x (bounced x) a c K 1 C (lit< tt) (refl, refl) v t) (le-of-eq (mul-one a)))) ∙ sym x-is;
-    }
+    let c = down e in
+    let v : HasValue (bounced (fin false m e)) false (K * c) c =
+    revalue (bounced (fin false m e)) false K 1 (K * c) c (lit< tt) (sym (mul-one (K * c))) (subst (λ (z : Float). HasValue z false K 1) (sym (w .1)) (whole-value binary64 K (room K (m * up e / c) (w .3) (div-lt-iff-lt-mul (down-pos e) .1 h)))) in
+    pick K (eq-zero-or-pos (K - m * up e / c)) (w .1) (sub-over binary64 (fin false m e) (bounced (fin false m e)) false false (m * up e) (K * c) c (down-pos e) (refl, refl) v) (w .2) (w .3) (w .4)
   where
     room : (K q : ℕ) → K ≤ suc q → q < 2 ^ 52 → K ≤ 2 ^ 53
     room K q a b = omega arith
 
-    wide : (K : ℕ) → K ≤ 2 ^ 53 → K < 2 ^ 64
-    wide K h = omega arith
-
-    above : (K q : ℕ) → K ≤ suc q → q < K → K ≡ q + 1
-    above K q a b = omega arith
-
-    same : (K q : ℕ) → q ≤ K → K ≤ q → K ≡ q
+    same : (K q : ℕ) → q ≤ K → K - q ≡ 0 → K ≡ q
     same K q a b = omega arith
 
-pub bounced-is : (x : Float) → T (lt nought x) → T (lt x limit) → Bounced x
-bounced-is x h k = let w = small x h k in subst Bounced (sym (w .2)) (bounced-at (w .0) (w .1) (w .3))
+    next : (K q : ℕ) → K ≤ suc q → 0 < K - q → K ≡ suc q
+    next K q a b = omega arith
+
+    left : (p r a : ℕ) → p + r ≡ a → (p ≤ a) × (a - p ≡ r)
+    left p r a e = (omega arith, omega arith)
+
+    beyond : (p r a c : ℕ) → p + r ≡ a → r < c → (a < p + c) × (p + c - a ≡ c - r)
+    beyond p r a c e h = (omega arith, omega arith)
+
+    pick : (K : ℕ) → (K - m * up e / down e ≡ 0) ⊎ (0 < K - m * up e / down e) → bounced (fin false m e) ≡ ofInt binary64 (pos K) → gap (fin false m e) ≡ sum binary64 false (m * up e) true (K * down e) (down e)
+        → m * up e / down e ≤ K → K ≤ suc (m * up e / down e) → (K ≡ suc (m * up e / down e) → down e ≤ m * up e % down e * 2) → Bounce (fin false m e) (m * up e / down e) (m * up e % down e) (down e)
+    pick K (inl z) at is lo hi half =
+        let a = m * up e in
+        let c = down e in
+        let k = same K (a / c) lo z in
+        let l = left (a / c * c) (a % c) a (div-add-mod' a c) in
+        over (at ∙ ap (λ (n : ℕ). ofInt binary64 (pos n)) k)
+        (is ∙ ap (λ (n : ℕ). sum binary64 false a true (n * c) c) k ∙ sum-less binary64 a (a / c * c) c (l .0) ∙ ap (λ (n : ℕ). round binary64 false n c) (l .1))
+    pick K (inr z) at is lo hi half =
+        let a = m * up e in
+        let c = down e in
+        let k = next K (a / c) hi z in
+        let l = beyond (a / c * c) (a % c) a c (div-add-mod' a c) (mod-lt a (down-pos e)) in
+        under (at ∙ ap (λ (n : ℕ). ofInt binary64 (pos n)) k) (half k)
+        (is ∙ ap (λ (n : ℕ). sum binary64 false a true (n * c) c) k ∙ ap (λ (n : ℕ). sum binary64 false a true n c) (suc-mul (a / c) c) ∙ sum-more binary64 false a (a / c * c + c) c (l .0) ∙ ap (λ (n : ℕ). round binary64 true n c) (l .1))

@@ -1,4 +1,5 @@
 -- Laws that the proofs of `float` share and that the crates above cite.
+pub mod Digits
 pub mod Exactly
 pub mod Compared
 pub mod Wholes

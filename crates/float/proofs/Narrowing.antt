@@ -19,7 +19,8 @@ use lib.Ieee.Nearest.{closest, closest-same, nearest-ge}
 use lib.Ieee.Scale.{round-same}
 use Rattle.float.specs.Narrow.{narrowOf, Narrowed}
 use Rattle.float.proofs.Exactly.{unique}
-use Rattle.float.proofs.Patterns.{signed, ofBits-fields, Cmp, cmp, closest-code}
+use Rattle.float.proofs.Digits.{pow-split, size-gt, Cmp, cmp}
+use Rattle.float.proofs.Patterns.{signed, ofBits-fields, closest-code}
 
 -- ---- `narrowOf` sees only the value
 pub narrow-value : (x : Float) (s : Bool) (a c : ℕ) → 0 < c → HasValue x s a c → narrowOf x ≡ round binary32 s a c
@@ -127,9 +128,6 @@ target s q k h l m =
     top (inr u) = target-next s k (less k u)
 
 -- ---- `round` of D * 2 ^ K of the smallest `f64`
-pow-split : (n a b : ℕ) → n * 2 ^ a * 2 ^ b ≡ n * 2 ^ (a + b)
-pow-split n a b = mul-assoc n (2 ^ a) (2 ^ b) ∙ ap (λ (x : ℕ). n * x) (sym (pow-add 2 a b))
-
 pub round-units : (s : Bool) (D K j k : ℕ) → K + 149 + j ≡ 1074 + k → size (D * 2 ^ K * 2 ^ 149 / 2 ^ 1074) - 24 ≡ k → round binary32 s (D * 2 ^ K) (2 ^ 1074) ≡ units binary32 s (closest D (2 ^ j)) k
 round-units s D K j k e z =
     round-is binary32 s (D * 2 ^ K) (2 ^ 1074)
@@ -138,9 +136,6 @@ round-units s D K j k e z =
   where
     same : D * 2 ^ K * 2 ^ 149 * 2 ^ j ≡ D * (2 ^ 1074 * 2 ^ k)
     same = ap (λ (y : ℕ). y * 2 ^ j) (pow-split D K 149) ∙ pow-split D (K + 149) j ∙ ap (λ (y : ℕ). D * 2 ^ y) e ∙ ap (λ (y : ℕ). D * y) (pow-add 2 1074 k)
-
-size-gt : (n j : ℕ) → 2 ^ j ≤ n → j < size n
-size-gt n j h = lt-of-not-le (λ (g : size n ≤ j). not-le-of-lt (lt-of-lt-of-le (size-lt n) (pow-mono g)) h)
 
 size-normal : (D K k : ℕ) → K ≡ 896 + k → 2 ^ 52 ≤ D → D < 2 ^ 53 → size (D * 2 ^ K * 2 ^ 149 / 2 ^ 1074) - 24 ≡ k
 size-normal D K k e l h =

@@ -1,5 +1,4 @@
--- |x| where x is not above zero (`abs-other`), and remainders: a % b is a itself where |a| is below |b| (`rem-small`); x % 1 is exact (`rest-value`), and so is the distance to the whole number
--- next to x that `(x + 2 ^ 52) - 2 ^ 52` is (`gap-is`), from which `rem_one` gets it (`above-is`, `below-is`). Assumes nothing.
+-- |x| where x is not above zero (`abs-other`), and remainders: a % b is a itself where |a| is below |b| (`rem-small`); what `rem_one` gets from the whole number next to x (`above-is`, `below-is`). Assumes nothing.
 use mathlib.Core.Path.{_≡_, refl, sym, ap, _∙_, subst}
 use mathlib.Core.Logic.{_⊎_, inl, inr}
 use Prim.Native.Nat.{ℕ, zero, suc, _+_, _-_, _*_, _/_, _%_, _^_, _≤_, _<_, zero-le}
@@ -11,17 +10,15 @@ use lib.Dec.{T, ltb, eqb, ltb→lt, lt→ltb, T-not, not-T, lit<}
 use lib.Pow.{pow-add, pow-pos, pow-mono, shl-lt}
 use lib.Ieee.{Float, nan, inf, fin, Format, binary64, prec, emax, low, up, down, round, sum, add, neg, sub, rem, lt, fits, ofBits, ofInt}
 use lib.Ieee.Bits.{cond-no, is-true, is-false}
-use lib.Ieee.Digits.{back}
 use lib.Ieee.Fits.{up-pos, down-pos, reach}
 use lib.Ieee.Exact.{HasValue, round-exact}
 use lib.Ieee.Scale.{round-same}
 use Rattle.float.specs.Ops.{absOf, one}
 use Rattle.float.specs.Rem.{remEuclidOf, raised}
-use Rattle.float.proofs.Exactly.{fits-says, zero-exp, pow-le→le, round-self, neg-round}
+use Rattle.float.proofs.Exactly.{fits-parts, zero-exp, few-exact, rest-few, round-self, neg-round}
 use Rattle.float.proofs.Compared.{nought, lt→cross, under-power}
-use Rattle.float.proofs.Wholes.{limit}
 use Rattle.float.proofs.Sums.{cond-nil, neg-value, add-over, sub-over, sum-less, sum-more, under-zero, not-under, over-zero, not-over-minus, none-under}
-use Rattle.float.proofs.Cuts.{revalue, bounced, rounded-whole, value-of}
+use Rattle.float.proofs.Cuts.{limit, gap, Bounce, over, under, bounce-is}
 
 -- ---- |x|
 pub abs-above : (x : Float) → T (lt nought x) → x ≡ absOf x
@@ -75,10 +72,6 @@ abs-other (fin true m e) t h = abs-minus m e t
 abs-other (fin false m e) t h = plus-zero m e (none-above m e h) t
 
 -- ---- a % b where |a| is below |b|
-pub fits-parts : (f : Format) (s : Bool) (m : ℕ) (e : ℤ) → T (fits f (fin s m e)) → (m < 2 ^ prec f) × (down e ≤ 2 ^ low f)
-fits-parts f s zero e t = (pow-pos (prec f), subst (λ (z : ℤ). down z ≤ 2 ^ low f) (sym (zero-exp f s e t)) (pow-pos (low f)))
-fits-parts f s (suc m) e t = let w = fits-says f s m e t in (w .1, w .2)
-
 pub rem-small : (f : Format) (x y : Float) → T (fits f x) → T (lt (absOf x) (absOf y)) → x ≡ rem f x y
 unfolding rem lt absOf
 rem-small f nan y t h = refl
@@ -105,30 +98,6 @@ rem-small f (fin s m e) (fin u n g) t h =
     some zero u d h = subst (λ (z : ℕ). 0 < z) (ap (λ (z : ℕ). z * d) (zero-mul u) ∙ zero-mul d) h
     some (suc n) u d h = zero-lt-suc n
 
--- ---- a few digits over the denominator of a value are a value
-rest-exp : (f : Format) (e : ℤ) → down e ≤ 2 ^ low f → (j : ℕ) × (j ≤ low f) × (2 ^ low f ≡ 2 ^ j * down e)
-rest-exp f (pos k) h = (low f, le-of-eq refl, sym (mul-one (2 ^ low f)))
-rest-exp f (negsuc k) h =
-    let l : suc k ≤ low f = pow-le→le (suc k) (low f) h in
-    (low f - suc k, below (low f) (suc k), ap (λ (z : ℕ). 2 ^ z) (sym (back (low f) (suc k) l)) ∙ pow-add 2 (low f - suc k) (suc k))
-  where
-    below : (a b : ℕ) → a - b ≤ a
-    below a b = omega arith
-
-pub few-exact : (f : Format) (t : Bool) (b : ℕ) (e : ℤ) → down e ≤ 2 ^ low f → b < 2 ^ prec f → HasValue (round f t b (down e)) t b (down e)
-few-exact f t b e d h =
-    let w = rest-exp f e d in
-    round-exact f t b (down e) b (w .0) (down-pos e) h
-    (lt-of-lt-of-le (shl-lt (prec f) (w .0) h) (pow-mono (top (prec f) (w .0) (low f) (emax f) (reach f) (w .1))))
-    (ap (λ (z : ℕ). b * z) (w .2) ∙ sym (mul-assoc b (2 ^ w .0) (down e)))
-  where
-    top : (p j l m : ℕ) → p ≤ suc m → j ≤ l → p + j ≤ l + suc m
-    top p j l m h k = omega arith
-
-rest-few : (f : Format) (m : ℕ) (e : ℤ) → m < 2 ^ prec f → m * up e % down e < 2 ^ prec f
-rest-few f m (pos k) h = subst (λ (z : ℕ). z < 2 ^ prec f) (sym (mod-one (m * 2 ^ k))) (pow-pos (prec f))
-rest-few f m (negsuc k) h = lt-of-le-of-lt (le-trans (mod-le (m * 1) (2 ^ suc k)) (le-of-eq (mul-one m))) h
-
 -- ---- x % 1
 abbrev unit : Float
 unit = fin false 1 (pos 0)
@@ -146,66 +115,6 @@ rem-one-at f s m e =
     ∙ ap (λ (z : ℕ). round f s (z % (1 * down e)) (down e * 1)) (mul-one (m * up e))
     ∙ ap (λ (z : ℕ). round f s (m * up e % z) (down e * 1)) (one-mul (down e))
     ∙ ap (λ (z : ℕ). round f s (m * up e % down e) z) (mul-one (down e))
-
--- ---- the distance to the whole number next to x
-abbrev pub gap : Float → Float
-gap x = sub binary64 x (bounced x)
-
--- with r / c the fraction of x: it is r / c, or r / c is a half at least and it is r / c - 1
-pub data Gap (x : Float) (r c : ℕ) : Type 0 where
-  over : gap x ≡ round binary64 false r c → Gap x r c
-  under : c ≤ r * 2 → gap x ≡ round binary64 true (c - r) c → Gap x r c
-
-gap-is : (m : ℕ) (e : ℤ) → m * up e < 2 ^ 52 * down e → Gap (fin false m e) (m * up e % down e) (down e)
-gap-is m e h =
-    let a = m * up e in
-    let c = down e in
-    let q = a / c in
-    let w = rounded-whole m e h in
-    let K = w .0 in
-    let K-le : K ≤ 2 ^ 53 = room K q (w .3) (quotient a c (down-pos e) h) in
-    let v : HasValue (bounced (fin false m e)) false (K * c) c =
-    revalue (bounced (fin false m e)) false K 1 (K * c) c (lit< tt) (sym (mul-one (K * c))) (subst (λ (z : Float). HasValue z false K 1) (sym (w .1)) (value-of K K-le)) in
-    let is : gap (fin false m e) ≡ sum binary64 false a true (K * c) c = sub-over binary64 (fin false m e) (bounced (fin false m e)) false false a (K * c) c (down-pos e) (refl, refl) v in
-    pick K (eq-zero-or-pos (K - q)) is (w .2) (w .3) (w .4)
-  where
-    room : (K q : ℕ) → K ≤ suc q → q < 2 ^ 52 → K ≤ 2 ^ 53
-    room K q a b = omega arith
-
-    quotient : (a c : ℕ) → 0 < c → a < 2 ^ 52 * c → a / c < 2 ^ 52
-    quotient a c C h = div-lt-iff-lt-mul C .1 h
-
-    same : (K q : ℕ) → q ≤ K → K - q ≡ 0 → K ≡ q
-    same K q a b = omega arith
-
-    next : (K q : ℕ) → K ≤ suc q → 0 < K - q → K ≡ suc q
-    next K q a b = omega arith
-
-    left : (p r a : ℕ) → p + r ≡ a → (p ≤ a) × (a - p ≡ r)
-    left p r a e = (omega arith, omega arith)
-
-    beyond : (p r a c : ℕ) → p + r ≡ a → r < c → (a < p + c) × (p + c - a ≡ c - r)
-    beyond p r a c e h = (omega arith, omega arith)
-
-    pick : (K : ℕ) → (K - m * up e / down e ≡ 0) ⊎ (0 < K - m * up e / down e) → gap (fin false m e) ≡ sum binary64 false (m * up e) true (K * down e) (down e) → m * up e / down e ≤ K → K ≤ suc (m * up e / down e) → (K ≡ suc (m * up e / down e) → down e ≤ m * up e % down e * 2) → Gap (fin false m e) (m * up e % down e) (down e)
-    pick K (inl z) is lo hi half =
-        let a = m * up e in
-        let c = down e in
-        let l = left (a / c * c) (a % c) a (div-add-mod' a c) in
-        over
-        (is ∙ ap (λ (k : ℕ). sum binary64 false a true (k * c) c) (same K (a / c) lo z)
-        ∙ sum-less binary64 a (a / c * c) c (l .0)
-        ∙ ap (λ (k : ℕ). round binary64 false k c) (l .1))
-    pick K (inr z) is lo hi half =
-        let a = m * up e in
-        let c = down e in
-        let k = next K (a / c) hi z in
-        let l = beyond (a / c * c) (a % c) a c (div-add-mod' a c) (mod-lt a (down-pos e)) in
-        under (half k)
-        (is ∙ ap (λ (k : ℕ). sum binary64 false a true (k * c) c) k
-        ∙ ap (λ (k : ℕ). sum binary64 false a true k c) (suc-mul (a / c) c)
-        ∙ sum-more binary64 false a (a / c * c + c) c (l .0)
-        ∙ ap (λ (k : ℕ). round binary64 true k c) (l .1))
 
 -- ---- what `rem_euclid` makes of x % 1
 cond-yes : {X : Type 0} (b : Bool) (x y : X) → T b → cond b x y ≡ x
@@ -244,8 +153,8 @@ half-pos r c C h = omega arith
 half-few : (r c p : ℕ) → c ≤ r * 2 → r < p → c - r < p
 half-few r c p h k = omega arith
 
-above-gap : (m : ℕ) (e : ℤ) (r : ℕ) → r < down e → r < 2 ^ 53 → down e ≤ 2 ^ 1074 → rem binary64 (fin false m e) unit ≡ round binary64 false r (down e) → Gap (fin false m e) r (down e) → Above (fin false m e)
-above-gap m e r R few d is (over g) =
+above-gap : (m : ℕ) (e : ℤ) (q r : ℕ) → r < down e → r < 2 ^ 53 → down e ≤ 2 ^ 1074 → rem binary64 (fin false m e) unit ≡ round binary64 false r (down e) → Bounce (fin false m e) q r (down e) → Above (fin false m e)
+above-gap m e q r R few d is (over b g) =
     let c = down e in
     let x = fin false m e in
     let v = few-exact binary64 false r e d few in
@@ -254,7 +163,7 @@ above-gap m e r R few d is (over g) =
       more = λ t. absurd (T-not (lt (gap x) nought) z t);
       same = λ t. g ∙ sym (euclid-one x (round binary64 false r c) is ∙ stays (round binary64 false r c) (not-under (round binary64 false r c) r c v));
     }
-above-gap m e r R few d is (under half g) =
+above-gap m e q r R few d is (under b half g) =
     let c = down e in
     let x = fin false m e in
     let v = few-exact binary64 false r e d few in
@@ -296,7 +205,7 @@ above-is (inf false) t h k = absurd k
 above-is (fin true m e) t h k = above-minus m e (minus-none m e h) t
 above-is (fin false m e) t h k =
     let w = fits-parts binary64 false m e t in
-    above-gap m e (m * up e % down e) (mod-lt (m * up e) (down-pos e)) (rest-few binary64 m e (w .0)) (w .1) (rem-one-at binary64 false m e) (gap-is m e (under-power (fin false m e) (m * up e) (down e) 52 (down-pos e) (refl, refl) k))
+    above-gap m e (m * up e / down e) (m * up e % down e) (mod-lt (m * up e) (down-pos e)) (rest-few binary64 m e (w .0)) (w .1) (rem-one-at binary64 false m e) (bounce-is m e (under-power (fin false m e) (m * up e) (down e) 52 (down-pos e) (refl, refl) k))
 
 -- ---- x below 0, by its size
 pub record Below (x : Float) : Type 0 where
@@ -306,9 +215,9 @@ pub record Below (x : Float) : Type 0 where
 none-over : (x : Float) (c : ℕ) → 0 < c → HasValue x false 0 c → T (lt nought x) → ⊥
 none-over x c C v h = lt-irrefl 0 (subst (λ (z : ℕ). z < 0 * 1) (zero-mul c) (lt→cross nought x 0 1 0 c (lit< tt) C (refl, refl) v h))
 
-below-gap : (m : ℕ) (e : ℤ) (r : ℕ) → r < down e → r < 2 ^ 53 → down e ≤ 2 ^ 1074 → rem binary64 (fin true m e) unit ≡ round binary64 true r (down e) → Gap (fin false m e) r (down e)
+below-gap : (m : ℕ) (e : ℤ) (q r : ℕ) → r < down e → r < 2 ^ 53 → down e ≤ 2 ^ 1074 → rem binary64 (fin true m e) unit ≡ round binary64 true r (down e) → Bounce (fin false m e) q r (down e)
     → (T (lt nought (gap (fin false m e))) → sub binary64 unit (gap (fin false m e)) ≡ remEuclidOf (fin true m e) unit) × (T (not (lt nought (gap (fin false m e)))) → neg (gap (fin false m e)) ≡ remEuclidOf (fin true m e) unit)
-below-gap m e zero R few d is (over g) =
+below-gap m e q zero R few d is (over b g) =
     let c = down e in
     let y = fin false m e in
     let v : HasValue (gap y) false 0 c = subst (λ (z : Float). HasValue z false 0 c) (sym g) (few-exact binary64 false 0 e d few) in
@@ -316,7 +225,7 @@ below-gap m e zero R few d is (over g) =
       λ t. absurd (none-over (gap y) c (down-pos e) v t),
       λ t. ap neg g ∙ neg-round binary64 false 0 c ∙ sym (euclid-one (fin true m e) (round binary64 true 0 c) is ∙ stays (round binary64 true 0 c) (not-T (lt (round binary64 true 0 c) nought) (none-under (round binary64 true 0 c) c (down-pos e) w))),
     )
-below-gap m e (suc r) R few d is (over g) =
+below-gap m e q (suc r) R few d is (over b g) =
     let c = down e in
     let y = fin false m e in
     let p = suc r in
@@ -325,7 +234,7 @@ below-gap m e (suc r) R few d is (over g) =
       λ t. sub-over binary64 unit (gap y) false false c p c (down-pos e) (unit-value c) v ∙ sum-less binary64 c p c (le-of-lt R) ∙ sym (euclid-one (fin true m e) (round binary64 true p c) is ∙ moves (round binary64 true p c) p c (zero-lt-suc r) R w),
       λ t. absurd (T-not (lt nought (gap y)) t (over-zero (gap y) p c (zero-lt-suc r) v)),
     )
-below-gap m e r R few d is (under half g) =
+below-gap m e q r R few d is (under b half g) =
     let c = down e in
     let y = fin false m e in
     let v : HasValue (gap y) true (c - r) c = subst (λ (z : Float). HasValue z true (c - r) c) (sym g) (few-exact binary64 true (c - r) e d (half-few r c (2 ^ 53) half few)) in
@@ -342,7 +251,7 @@ below-is (inf false) t h k = absurd h
 below-is (fin false m e) t h k = absurd (T-not (lt (fin false m e) nought) (not-under (fin false m e) (m * up e) (down e) (refl, refl)) h)
 below-is (fin true m e) t h k =
     let w = fits-parts binary64 true m e t in
-    let b = below-gap m e (m * up e % down e) (mod-lt (m * up e) (down-pos e)) (rest-few binary64 m e (w .0)) (w .1) (rem-one-at binary64 true m e) (gap-is m e (under-power (fin false m e) (m * up e) (down e) 52 (down-pos e) (refl, refl) k)) in
+    let b = below-gap m e (m * up e / down e) (m * up e % down e) (mod-lt (m * up e) (down-pos e)) (rest-few binary64 m e (w .0)) (w .1) (rem-one-at binary64 true m e) (bounce-is m e (under-power (fin false m e) (m * up e) (down e) 52 (down-pos e) (refl, refl) k)) in
     record {
       more = b .0;
       same = b .1;

@@ -13,6 +13,7 @@ use lib.Ieee.Digits.{size-lt, size-le}
 use lib.Ieee.Fits.{two}
 use Rattle.float.specs.Sqrt.{digit, root, isqrt, rootOf}
 use Rattle.float.specs.RootSteps.{NearRoot}
+use Rattle.float.proofs.Digits.{size-exact, Cmp, cmp}
 use Rattle.float.proofs.Squares.{square-odd, square-next, square-lt-back, near-unique}
 
 -- ---- the largest q with q * q at most n
@@ -53,12 +54,6 @@ cut p u w h k =
 
 -- ---- how many digits a number has
 
-pow-lt-back : (i p : ℕ) → 2 ^ i < 2 ^ p → i < p
-pow-lt-back i p h = lt-of-not-le (λ (g : p ≤ i). lt-irrefl (2 ^ i) (lt-of-lt-of-le h (pow-mono g)))
-
-pub size-exact : (a n : ℕ) → 2 ^ a ≤ n → n < 2 ^ suc a → size n ≡ suc a
-size-exact a n lo hi = le-antisymm (size-le n (suc a) hi) (pow-lt-back a (size n) (lt-of-le-of-lt lo (size-lt n)))
-
 -- a number w whose part above its k lowest digits has p digits
 size-over : (p k w : ℕ) → 0 < p → 2 ^ (p - 1) ≤ w / 2 ^ k → w / 2 ^ k < 2 ^ p → size w - p ≡ k
 size-over p k w h lo hi =
@@ -67,21 +62,6 @@ size-over p k w h lo hi =
     let e : p + k ≡ suc (p - 1 + k) = omega arith in
     let s : size w ≡ suc (p - 1 + k) = size-exact (p - 1 + k) w low (subst (λ (i : ℕ). w < 2 ^ i) e up) in
     omega arith
-
--- ---- what `compare` says
-
-abbrev Cmp : Ordering → ℕ → ℕ → Type 0
-Cmp Ordering·lt a b = a < b
-Cmp Ordering·eq a b = a ≡ b
-Cmp Ordering·gt a b = b < a
-
-cmp : (a b : ℕ) → Cmp (compare a b) a b
-cmp a b = go (compare a b) (leb→le a b) (nleb→lt a b) (eqb→eq a b) (λ (e : a ≡ b). subst (λ (x : ℕ). T (eqb a x)) e (eqb-refl a))
-  where
-    go : (o : Ordering) → (T (isLe o) → a ≤ b) → (T (not (isLe o)) → b < a) → (T (isEq o) → a ≡ b) → (a ≡ b → T (isEq o)) → Cmp o a b
-    go Ordering·lt h k e n = lt-of-le-ne (h tt) n
-    go Ordering·eq h k e n = e tt
-    go Ordering·gt h k e n = k tt
 
 -- ---- the nearest whole number, by how the half-way point's square compares
 

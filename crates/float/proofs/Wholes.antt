@@ -1,23 +1,22 @@
--- `floor`, `ceil` and `round` on a value above zero: below 2 ^ 52 by the whole part as an integer, and from there on the value itself, which is whole. Assumes nothing.
+-- `floor`, `ceil` and `round` on a value above zero: below 2 ^ 52 by the whole number next to it (`small-is`), and from there on the value itself, which is whole (`large`); then by sign. Assumes nothing.
 use mathlib.Core.Path.{_≡_, refl, sym, ap, _∙_, subst}
 use Prim.Native.Nat.{ℕ, zero, suc, _+_, _-_, _*_, _/_, _%_, _^_, _≤_, _<_, zero-le}
-use native.Mathlib.Nat.{le-trans, le-of-eq, le-of-lt, lt-irrefl, lt-of-lt-of-le, lt-of-le-of-lt, not-le-of-lt, zero-lt-suc, zero-mul, mul-one, one-mul, add-mul, mul-pos, mul-comm, mul-assoc, mul-left-comm, mul-right-comm, mul-le-mul-left, mul-le-mul-right, mul-lt-mul-of-pos-right, lt-of-mul-lt-mul-right, div-one, div-lt-iff-lt-mul, div-add-mod', mod-lt, div-eq-of-lt-le, div-div-eq-div-mul, add-div-right, pow-suc, pow-succ'}
+use native.Mathlib.Nat.{le-trans, le-of-eq, le-of-lt, lt-of-lt-of-le, lt-of-le-of-lt, not-le-of-lt, zero-lt-suc, zero-mul, mul-one, one-mul, mul-pos, div-one, div-add-mod', div-lt-iff-lt-mul, mod-lt, div-eq-of-lt-le, mul-left-comm, suc-mul, mul-le-mul-right, pow-succ'}
+use native.Mathlib.Numerals.{add-one}
 use native.Mathlib.Omega.{arith}
-use mathlib.Core.Bool.{Bool, true, false, not, cond, true≢false}
+use mathlib.Core.Bool.{Bool, true, false, not, true≢false}
 use lib.IntN.{ℤ, pos, negsuc}
-use lib.Dec.{T, ltb, ltb→lt, lt→ltb, nltb→le, le→leb, lit<, lit≤}
-use lib.Pow.{pow-add, pow-pos, pow-mono}
-use lib.Ieee.{Float, nan, inf, fin, binary64, up, down, round, sum, add, neg, lt, ofInt, inFloat, toUnsigned, fits}
+use lib.Dec.{T, ltb, ltb→lt, lt→ltb, nltb→le, T-not, lit<, lit≤}
+use lib.Pow.{pow-pos}
+use lib.Ieee.{Float, nan, inf, fin, binary64, up, down, round, add, sub, neg, lt, le, ofInt, toUnsigned, fits}
 use lib.Ieee.Fits.{down-pos, up-pos}
-use lib.Ieee.Exact.{HasValue, round-exact}
-use lib.Ieee.Scale.{round-same}
-use lib.Ieee.Back.{round-whole}
+use lib.Ieee.Exact.{HasValue}
+use lib.Ieee.Positive.{above, above-of-le}
 use Rattle.float.specs.Whole.{cut, lifted, halfUp, wholeBy, floorOf, ceilOf, roundOf}
-use Rattle.float.proofs.Exactly.{fits-says, zero-exp, exponent, round-self, neg-round}
-use Rattle.float.proofs.Compared.{nought, lt→cross, nlt→cross, under-power, over-power, in-range, unsigned-value}
-
-abbrev pub limit : Float
-limit = fin false 1 (pos 52)
+use Rattle.float.proofs.Exactly.{fits-says, fits-parts, zero-exp, few-exact, rest-few, round-self, neg-round}
+use Rattle.float.proofs.Compared.{nought, lt→cross, nlt→cross, le→value, nle→value, under-power, over-power, unsigned-value}
+use Rattle.float.proofs.Counts.{whole-is, whole-value, whole-add, whole-sub}
+use Rattle.float.proofs.Cuts.{limit, bounced, gap, Bounce, over, under, bounce-is}
 
 -- ---- a value above zero and below the limit
 pub small : (x : Float) → T (lt nought x) → T (lt x limit) → (m : ℕ) × (e : ℤ) × (x ≡ fin false m e) × (m * up e < 2 ^ 52 * down e)
@@ -28,211 +27,174 @@ small (inf false) h k = absurd k
 small (fin true m e) h k = absurd h
 small (fin false m e) h k = (m, e, refl, under-power (fin false m e) (m * up e) (down e) 52 (down-pos e) (refl, refl) k)
 
-wider : (a d : ℕ) → a < 2 ^ 52 * d → a < 2 ^ 64 * d
-wider a d h = lt-of-lt-of-le h (mul-le-mul-right d (lit≤ tt))
+-- by its own fraction
+opened : (pick : ℕ → ℕ → ℕ) (m : ℕ) (e : ℤ) → wholeBy pick (fin false m e) ≡ ofInt binary64 (pos (pick (m * up e) (down e)))
+unfolding wholeBy ofInt
+opened pick m e = refl
 
-pub small-range : (x : Float) → T (lt nought x) → T (lt x limit) → T (lt (fin true 1 (pos 0)) x) × T (lt x (fin false 1 (pos 64)))
-small-range x h k =
+-- its whole part as an integer, and as a float
+pub cut-is : (x : Float) → T (lt nought x) → T (lt x limit) → (n : ℕ) × (n < 2 ^ 52) × (toUnsigned 64 x ≡ n) × (wholeBy cut x ≡ ofInt binary64 (pos n))
+cut-is x h k =
     let w = small x h k in
-    subst (λ (y : Float). T (lt (fin true 1 (pos 0)) y) × T (lt y (fin false 1 (pos 64)))) (sym (w .2))
-    (in-range (fin false (w .0) (w .1)) (w .0 * up (w .1)) (down (w .1)) (down-pos (w .1)) (refl, refl) (wider (w .0 * up (w .1)) (down (w .1)) (w .3)))
-
-small-cut : (m : ℕ) (e : ℤ) → m * up e < 2 ^ 52 * down e → toUnsigned 64 (fin false m e) ≡ m * up e / down e
-small-cut m e h = unsigned-value 64 (fin false m e) (m * up e) (down e) (down-pos e) (refl, refl) (wider (m * up e) (down e) h)
-
-pub small-lt : (x : Float) → T (lt nought x) → T (lt x limit) → toUnsigned 64 x < 2 ^ 52
-small-lt x h k =
-    let w = small x h k in
-    subst (λ (y : Float). toUnsigned 64 y < 2 ^ 52) (sym (w .2))
-    (subst (λ (n : ℕ). n < 2 ^ 52) (sym (small-cut (w .0) (w .1) (w .3))) (div-lt-iff-lt-mul (down-pos (w .1)) .1 (w .3)))
-
-pub in-float : (n : ℕ) → n ≤ 2 ^ 53 → T (inFloat binary64 (pos n))
-unfolding inFloat
-in-float n h = le→leb n (2 ^ 53) h
-
-whole-is : (n k : ℕ) → n ≡ k → ofInt binary64 (pos n) ≡ round binary64 false k 1
-unfolding ofInt
-whole-is n k h = ap (λ (x : ℕ). round binary64 false x 1) h
-
--- ---- toward zero
-pub down-small : (x : Float) → T (lt nought x) → T (lt x limit) → (n : ℕ) → n ≡ toUnsigned 64 x → ofInt binary64 (pos n) ≡ wholeBy cut x
-unfolding wholeBy
-down-small x h k n q =
-    let w = small x h k in
-    whole-is n (w .0 * up (w .1) / down (w .1)) (q ∙ ap (λ (y : Float). toUnsigned 64 y) (w .2) ∙ small-cut (w .0) (w .1) (w .3))
-    ∙ sym (ap (wholeBy cut) (w .2))
-
--- ---- away from zero
-step : (n d : ℕ) → (n + 1) * d ≡ n * d + d
-step n d = add-mul n 1 d ∙ ap (λ (x : ℕ). n * d + x) (one-mul d)
-
-lift-up : (a d : ℕ) → 0 < d → a / d * d < a → a / d + 1 ≡ (a + (d - 1)) / d
-lift-up a d D h =
-    let q = a / d in
-    let s : (q + 1) * d ≡ q * d + d = step q d in
-    let t : (q + 1 + 1) * d ≡ (q + 1) * d + d = step (q + 1) d in
-    let e : q * d + a % d ≡ a = div-add-mod' a d in
-    let l : a % d < d = mod-lt a D in
-    sym (div-eq-of-lt-le d (omega arith) (omega arith))
-
-lift-same : (a d : ℕ) → 0 < d → a ≤ a / d * d → a / d ≡ (a + (d - 1)) / d
-lift-same a d D h =
-    let q = a / d in
-    let s : (q + 1) * d ≡ q * d + d = step q d in
-    let e : q * d + a % d ≡ a = div-add-mod' a d in
-    sym (div-eq-of-lt-le d (omega arith) (omega arith))
-
-whole-value : (n : ℕ) → n ≤ 2 ^ 53 → HasValue (ofInt binary64 (pos n)) false n 1
-unfolding ofInt
-whole-value n h = round-whole binary64 false n h
-
-near-top : (n : ℕ) → n < 2 ^ 52 → n ≤ 2 ^ 53
-near-top n h = omega arith
-
-up-more' : (m : ℕ) (e : ℤ) → m * up e < 2 ^ 52 * down e → T (lt (ofInt binary64 (pos (m * up e / down e))) (fin false m e)) → m * up e / down e + 1 ≡ lifted (m * up e) (down e)
-up-more' m e h k =
-    let n = m * up e / down e in
-    lift-up (m * up e) (down e) (down-pos e)
-    (lt-of-lt-of-le (lt→cross (ofInt binary64 (pos n)) (fin false m e) n 1 (m * up e) (down e) (lit< tt) (down-pos e) (whole-value n (near-top n (div-lt-iff-lt-mul (down-pos e) .1 h))) (refl, refl) k) (le-of-eq (mul-one (m * up e))))
-
-up-same' : (m : ℕ) (e : ℤ) → m * up e < 2 ^ 52 * down e → T (not (lt (ofInt binary64 (pos (m * up e / down e))) (fin false m e))) → m * up e / down e ≡ lifted (m * up e) (down e)
-up-same' m e h k =
-    let n = m * up e / down e in
-    lift-same (m * up e) (down e) (down-pos e)
-    (le-trans (le-of-eq (sym (mul-one (m * up e)))) (nlt→cross (ofInt binary64 (pos n)) (fin false m e) n 1 (m * up e) (down e) (lit< tt) (down-pos e) (whole-value n (near-top n (div-lt-iff-lt-mul (down-pos e) .1 h))) (refl, refl) k))
-
-pub up-more : (x : Float) → T (lt nought x) → T (lt x limit) → (n : ℕ) → n ≡ toUnsigned 64 x → T (lt (ofInt binary64 (pos n)) x) → ofInt binary64 (pos (n + 1)) ≡ wholeBy lifted x
-unfolding wholeBy
-up-more x h k n q l =
-    let w = small x h k in
-    let r : n ≡ w .0 * up (w .1) / down (w .1) = q ∙ ap (λ (y : Float). toUnsigned 64 y) (w .2) ∙ small-cut (w .0) (w .1) (w .3) in
-    whole-is (n + 1) (lifted (w .0 * up (w .1)) (down (w .1)))
-    (ap (λ (z : ℕ). z + 1) r ∙ up-more' (w .0) (w .1) (w .3) (subst (λ (y : Float). T (lt (ofInt binary64 (pos (w .0 * up (w .1) / down (w .1)))) y)) (w .2) (subst (λ (z : ℕ). T (lt (ofInt binary64 (pos z)) x)) r l)))
-    ∙ sym (ap (wholeBy lifted) (w .2))
-
-pub up-same : (x : Float) → T (lt nought x) → T (lt x limit) → (n : ℕ) → n ≡ toUnsigned 64 x → T (not (lt (ofInt binary64 (pos n)) x)) → ofInt binary64 (pos n) ≡ wholeBy lifted x
-unfolding wholeBy
-up-same x h k n q l =
-    let w = small x h k in
-    let r : n ≡ w .0 * up (w .1) / down (w .1) = q ∙ ap (λ (y : Float). toUnsigned 64 y) (w .2) ∙ small-cut (w .0) (w .1) (w .3) in
-    whole-is n (lifted (w .0 * up (w .1)) (down (w .1)))
-    (r ∙ up-same' (w .0) (w .1) (w .3) (subst (λ (y : Float). T (not (lt (ofInt binary64 (pos (w .0 * up (w .1) / down (w .1)))) y))) (w .2) (subst (λ (z : ℕ). T (not (lt (ofInt binary64 (pos z)) x))) r l)))
-    ∙ sym (ap (wholeBy lifted) (w .2))
-
--- ---- to the nearest: twice x is exact
-double-a : (m u d : ℕ) → (m * u * d + m * u * d) * d ≡ 2 * (m * u) * (d * d)
-double-a m u d = go (m * u) (m * u * d) d refl
+    subst (λ (y : Float). (n : ℕ) × (n < 2 ^ 52) × (toUnsigned 64 y ≡ n) × (wholeBy cut y ≡ ofInt binary64 (pos n))) (sym (w .2)) (here (w .0) (w .1) (w .3))
   where
-    go : (a p d : ℕ) → a * d ≡ p → (p + p) * d ≡ 2 * a * (d * d)
-    go a p d h = add-mul p p d ∙ two-is (p * d) ∙ ap (λ (z : ℕ). 2 * (z * d)) (sym h) ∙ ap (λ (z : ℕ). 2 * z) (mul-assoc a d d) ∙ sym (mul-assoc 2 a (d * d))
-      where
-        two-is : (z : ℕ) → z + z ≡ 2 * z
-        two-is z = omega arith
+    here : (m : ℕ) (e : ℤ) → m * up e < 2 ^ 52 * down e → (n : ℕ) × (n < 2 ^ 52) × (toUnsigned 64 (fin false m e) ≡ n) × (wholeBy cut (fin false m e) ≡ ofInt binary64 (pos n))
+    here m e h = (
+      m * up e / down e,
+      div-lt-iff-lt-mul (down-pos e) .1 h,
+      unsigned-value 64 (fin false m e) (m * up e) (down e) (down-pos e) (refl, refl) (lt-of-lt-of-le h (mul-le-mul-right (down e) (lit≤ tt))),
+      opened cut m e,
+    )
 
-opened : (m : ℕ) (e : ℤ) → add binary64 (fin false m e) (fin false m e) ≡ round binary64 false (m * up e * down e + m * up e * down e) (down e * down e)
-unfolding add sum
-opened m e = refl
+-- ---- with a = q * c + r: what a / c is away from zero, and to the nearest
+module _ (a c : ℕ) (C : 0 < c) where
+  split : (a / c * c + a % c ≡ a) × (a % c < c) × (suc (a / c) * c ≡ a / c * c + c)
+  split = (div-add-mod' a c, mod-lt a C, suc-mul (a / c) c)
 
-doubled : (m : ℕ) (e : ℤ) → add binary64 (fin false m e) (fin false m e) ≡ round binary64 false (2 * (m * up e)) (down e)
-doubled m e =
-    opened m e
-    ∙ round-same binary64 false (m * up e * down e + m * up e * down e) (down e * down e) (2 * (m * up e)) (down e) (mul-pos (down-pos e) (down-pos e)) (down-pos e) (double-a m (up e) (down e))
+  lifted-next : 0 < a % c → lifted a c ≡ suc (a / c)
+  lifted-next h =
+      let s = split in
+      let t : (suc (a / c) + 1) * c ≡ suc (a / c) * c + c = ap (λ (z : ℕ). z * c) (add-one (suc (a / c))) ∙ suc-mul (suc (a / c)) c in
+      div-eq-of-lt-le c (omega arith) (omega arith)
 
-twice-pow : (m j : ℕ) → 2 * (m * 2 ^ j) ≡ m * 2 ^ suc j
-twice-pow m j = mul-left-comm 2 m (2 ^ j) ∙ ap (λ (x : ℕ). m * x) (sym (pow-succ' 2 j))
+  lifted-same : a % c ≡ 0 → lifted a c ≡ a / c
+  lifted-same h =
+      let s = split in
+      let t : (a / c + 1) * c ≡ suc (a / c) * c = ap (λ (z : ℕ). z * c) (add-one (a / c)) in
+      div-eq-of-lt-le c (omega arith) (omega arith)
 
-double-value : (m : ℕ) (e : ℤ) → T (fits binary64 (fin false m e)) → m * up e < 2 ^ 52 * down e → HasValue (add binary64 (fin false m e) (fin false m e)) false (2 * (m * up e)) (down e)
-double-value zero e t h =
-    subst (λ (y : Float). HasValue y false (2 * (0 * up e)) (down e)) (sym (doubled 0 e))
-    (round-exact binary64 false (2 * (0 * up e)) (down e) 0 0 (down-pos e) (lit< tt) (lit< tt) (ap (λ (z : ℕ). 2 * z * 2 ^ 1074) (zero-mul (up e)) ∙ sym (zero-mul (down e))))
-double-value (suc m) e t h =
-    let w = fits-says binary64 false m e t in
-    let j = exponent binary64 (suc m) e (w .2) in
-    let q : 2 * (suc m * up e) * 2 ^ 1074 ≡ suc m * 2 ^ suc (j .0) * down e =
-    mul-assoc 2 (suc m * up e) (2 ^ 1074) ∙ ap (λ (z : ℕ). 2 * z) (j .1) ∙ sym (mul-assoc 2 (suc m * 2 ^ (j .0)) (down e)) ∙ ap (λ (z : ℕ). z * down e) (twice-pow (suc m) (j .0)) in
-    subst (λ (y : Float). HasValue y false (2 * (suc m * up e)) (down e)) (sym (doubled (suc m) e))
-    (round-exact binary64 false (2 * (suc m * up e)) (down e) (suc m) (suc (j .0)) (down-pos e) (w .1) (fine (suc m * up e) (suc m * 2 ^ suc (j .0)) (down e) (down-pos e) h q) q)
-  where
-    fine : (a p d : ℕ) → 0 < d → a < 2 ^ 52 * d → 2 * a * 2 ^ 1074 ≡ p * d → p < 2 ^ 2098
-    fine a p d D l e =
-        let b : 2 * a * 2 ^ 1074 < 2 ^ 2098 * d = far a d l in
-        below (subst (λ (z : ℕ). z < 2 ^ 2098 * d) e b)
-      where
-        far : (a d : ℕ) → a < 2 ^ 52 * d → 2 * a * 2 ^ 1074 < 2 ^ 2098 * d
-        far a d l =
-            lt-of-lt-of-le (mul-lt-mul-of-pos-right (twofold a d l) (pow-pos 1074)) (le-trans (le-of-eq (mul-right-comm (2 ^ 53) d (2 ^ 1074))) (mul-le-mul-right d (lit≤ tt)))
-          where
-            twofold : (a d : ℕ) → a < 2 ^ 52 * d → 2 * a < 2 ^ 53 * d
-            twofold a d l = omega arith
+  half-next : c ≤ a % c * 2 → halfUp a c ≡ suc (a / c)
+  half-next h =
+      let s = split in
+      let t : suc (a / c) * (2 * c) ≡ 2 * (suc (a / c) * c) = mul-left-comm (suc (a / c)) 2 c in
+      let u : (suc (a / c) + 1) * (2 * c) ≡ suc (a / c) * (2 * c) + 2 * c = ap (λ (z : ℕ). z * (2 * c)) (add-one (suc (a / c))) ∙ suc-mul (suc (a / c)) (2 * c) in
+      div-eq-of-lt-le (2 * c) (omega arith) (omega arith)
 
-        below : p * d < 2 ^ 2098 * d → p < 2 ^ 2098
-        below h = lt-of-mul-lt-mul-right d h
-
--- with n the whole part of a / c: which way the half goes
-module _ (a c n : ℕ) (C : 0 < c) (e : n ≡ a / c) where
-  p-is : (n + n + 1) * c ≡ n * c + n * c + c
-  p-is = step (n + n) c ∙ ap (λ (z : ℕ). z + c) (add-mul n n c)
-
-  twofold : n * (2 * c) ≡ 2 * (n * c)
-  twofold = mul-left-comm n 2 c
-
-  part : (n * c ≤ a) × (a < n * c + c)
-  part =
-      let q : a / c * c + a % c ≡ a = div-add-mod' a c in
-      let l : a % c < c = mod-lt a C in
-      let s : n * c ≡ a / c * c = ap (λ (z : ℕ). z * c) e in
-      (omega arith, omega arith)
-
-  half-same : 2 * a < (n + n + 1) * c → n ≡ halfUp a c
+  half-same : a % c * 2 < c → halfUp a c ≡ a / c
   half-same h =
-      let p = p-is in
-      let t = twofold in
-      let r = part in
-      let s : (n + 1) * (2 * c) ≡ n * (2 * c) + 2 * c = step n (2 * c) in
-      sym (div-eq-of-lt-le (2 * c) (omega arith) (omega arith))
+      let s = split in
+      let t : a / c * (2 * c) ≡ 2 * (a / c * c) = mul-left-comm (a / c) 2 c in
+      let u : (a / c + 1) * (2 * c) ≡ a / c * (2 * c) + 2 * c = ap (λ (z : ℕ). z * (2 * c)) (add-one (a / c)) ∙ suc-mul (a / c) (2 * c) in
+      div-eq-of-lt-le (2 * c) (omega arith) (omega arith)
 
-  half-more : (n + n + 1) * c ≤ 2 * a → n + 1 ≡ halfUp a c
-  half-more h =
-      let p = p-is in
-      let t = twofold in
-      let r = part in
-      let s : (n + 1) * (2 * c) ≡ n * (2 * c) + 2 * c = step n (2 * c) in
-      let u : (n + 1 + 1) * (2 * c) ≡ (n + 1) * (2 * c) + 2 * c = step (n + 1) (2 * c) in
-      sym (div-eq-of-lt-le (2 * c) (omega arith) (omega arith))
+-- ---- what the code does with the whole number next to x
+abbrev unit : Float
+unit = fin false 1 (pos 0)
 
-pub half-room : (n : ℕ) → n < 2 ^ 52 → n + n + 1 ≤ 2 ^ 53
-half-room n h = omega arith
+abbrev pub half : Float
+half = fin false 1 (negsuc 0)
 
--- `x + x < (n + n + 1) as f64`, taken and not
-near-same' : (m : ℕ) (e : ℤ) (n : ℕ) → T (fits binary64 (fin false m e)) → m * up e < 2 ^ 52 * down e → n ≡ m * up e / down e → n < 2 ^ 52 → T (lt (add binary64 (fin false m e) (fin false m e)) (ofInt binary64 (pos (n + n + 1)))) → n ≡ halfUp (m * up e) (down e)
-near-same' m e n t h q b l =
-    half-same (m * up e) (down e) n (down-pos e) q
-    (lt-of-le-of-lt (le-of-eq (sym (mul-one (2 * (m * up e)))))
-    (lt→cross (add binary64 (fin false m e) (fin false m e)) (ofInt binary64 (pos (n + n + 1))) (2 * (m * up e)) (down e) (n + n + 1) 1 (down-pos e) (lit< tt) (double-value m e t h) (whole-value (n + n + 1) (half-room n b)) l))
+pub record Small (x : Float) : Type 0 where
+  pub down-more : T (lt x (bounced x)) → sub binary64 (bounced x) unit ≡ wholeBy cut x
+  pub down-same : T (not (lt x (bounced x))) → bounced x ≡ wholeBy cut x
+  pub up-more : T (lt (bounced x) x) → add binary64 (bounced x) unit ≡ wholeBy lifted x
+  pub up-same : T (not (lt (bounced x) x)) → bounced x ≡ wholeBy lifted x
+  pub near-more : T (le half (gap x)) → add binary64 (bounced x) unit ≡ wholeBy halfUp x
+  pub near-same : T (not (le half (gap x))) → bounced x ≡ wholeBy halfUp x
 
-near-more' : (m : ℕ) (e : ℤ) (n : ℕ) → T (fits binary64 (fin false m e)) → m * up e < 2 ^ 52 * down e → n ≡ m * up e / down e → n < 2 ^ 52 → T (not (lt (add binary64 (fin false m e) (fin false m e)) (ofInt binary64 (pos (n + n + 1))))) → n + 1 ≡ halfUp (m * up e) (down e)
-near-more' m e n t h q b l =
-    half-more (m * up e) (down e) n (down-pos e) q
-    (le-trans (nlt→cross (add binary64 (fin false m e) (fin false m e)) (ofInt binary64 (pos (n + n + 1))) (2 * (m * up e)) (down e) (n + n + 1) 1 (down-pos e) (lit< tt) (double-value m e t h) (whole-value (n + n + 1) (half-room n b)) l)
-    (le-of-eq (mul-one (2 * (m * up e)))))
+one-is : ofInt binary64 (pos 1) ≡ unit
+unfolding ofInt
+one-is = refl
 
-pub near-same : (x : Float) → T (fits binary64 x) → T (lt nought x) → T (lt x limit) → (n : ℕ) → n ≡ toUnsigned 64 x → n < 2 ^ 52 → T (lt (add binary64 x x) (ofInt binary64 (pos (n + n + 1)))) → ofInt binary64 (pos n) ≡ wholeBy halfUp x
-unfolding wholeBy
-near-same x t h k n q b l =
+next-is : (q : ℕ) → q ≤ 2 ^ 53 → add binary64 (ofInt binary64 (pos q)) unit ≡ ofInt binary64 (pos (suc q))
+next-is q h = ap (λ (z : Float). add binary64 (ofInt binary64 (pos q)) z) (sym one-is) ∙ whole-add binary64 q 1 h (lit≤ tt) ∙ ap (λ (n : ℕ). ofInt binary64 (pos n)) (add-one q)
+
+last-is : (q : ℕ) → suc q ≤ 2 ^ 53 → sub binary64 (ofInt binary64 (pos (suc q))) unit ≡ ofInt binary64 (pos q)
+last-is q h = ap (λ (z : Float). sub binary64 (ofInt binary64 (pos (suc q))) z) (sym one-is) ∙ whole-sub binary64 (suc q) 1 h (first q) ∙ ap (λ (n : ℕ). ofInt binary64 (pos n)) (less q)
+  where
+    first : (q : ℕ) → 1 ≤ suc q
+    first q = omega arith
+
+    less : (q : ℕ) → suc q - 1 ≡ q
+    less q = omega arith
+
+module _ (m : ℕ) (e : ℤ) (t : T (fits binary64 (fin false m e))) (h : m * up e < 2 ^ 52 * down e) where
+  q-lt : m * up e / down e < 2 ^ 52
+  q-lt = div-lt-iff-lt-mul (down-pos e) .1 h
+
+  room : (q : ℕ) → q < 2 ^ 52 → q ≤ 2 ^ 53
+  room q l = omega arith
+
+  room-1 : (q : ℕ) → q < 2 ^ 52 → suc q ≤ 2 ^ 53
+  room-1 q l = omega arith
+
+  value-q : (k : ℕ) → k ≤ 2 ^ 53 → bounced (fin false m e) ≡ ofInt binary64 (pos k) → HasValue (bounced (fin false m e)) false k 1
+  value-q k l b = subst (λ (z : Float). HasValue z false k 1) (sym b) (whole-value binary64 k l)
+
+  small-at : Bounce (fin false m e) (m * up e / down e) (m * up e % down e) (down e) → Small (fin false m e)
+  small-at (over b g) =
+      let x = fin false m e in
+      let a = m * up e in
+      let c = down e in
+      let C = down-pos e in
+      let q = a / c in
+      let r = a % c in
+      let s = split a c C in
+      let o = mul-one a in
+      let w = fits-parts binary64 false m e t in
+      let v = value-q q (room q q-lt) b in
+      let d : HasValue (gap x) false r c = subst (λ (z : Float). HasValue z false r c) (sym g) (few-exact binary64 false r e (w .1) (rest-few binary64 m e (w .0))) in
+      let more : add binary64 (bounced x) unit ≡ ofInt binary64 (pos (suc q)) = ap (λ (z : Float). add binary64 z unit) b ∙ next-is q (room q q-lt) in
+      record {
+        down-more = λ k. absurd (never (q * c) r a (a * 1) (s .0) o (lt→cross x (bounced x) a c q 1 C (lit< tt) (refl, refl) v k));
+        down-same = λ k. b ∙ sym (opened cut m e);
+        up-more = λ k. more ∙ ap (λ (n : ℕ). ofInt binary64 (pos n)) (sym (lifted-next a c C (left (q * c) r a (a * 1) (s .0) o (lt→cross (bounced x) x q 1 a c (lit< tt) C v (refl, refl) k)))) ∙ sym (opened lifted m e);
+        up-same = λ k. b ∙ ap (λ (n : ℕ). ofInt binary64 (pos n)) (sym (lifted-same a c C (none (q * c) r a (a * 1) (s .0) o (nlt→cross (bounced x) x q 1 a c (lit< tt) C v (refl, refl) k)))) ∙ sym (opened lifted m e);
+        near-more = λ k. more ∙ ap (λ (n : ℕ). ofInt binary64 (pos n)) (sym (half-next a c C (le-trans (le-of-eq (sym (one-mul c))) (le→value half (gap x) 1 2 r c (lit< tt) C (refl, refl) d k)))) ∙ sym (opened halfUp m e);
+        near-same = λ k. b ∙ ap (λ (n : ℕ). ofInt binary64 (pos n)) (sym (half-same a c C (lt-of-lt-of-le (nle→value half (gap x) 1 2 r c (lit< tt) C (refl, refl) d k) (le-of-eq (one-mul c))))) ∙ sym (opened halfUp m e);
+      }
+    where
+      never : (p r a b : ℕ) → p + r ≡ a → b ≡ a → b < p → ⊥
+      never p r a b e f h = omega arith
+
+      left : (p r a b : ℕ) → p + r ≡ a → b ≡ a → p < b → 0 < r
+      left p r a b e f h = omega arith
+
+      none : (p r a b : ℕ) → p + r ≡ a → b ≡ a → b ≤ p → r ≡ 0
+      none p r a b e f h = omega arith
+  small-at (under b l g) =
+      let x = fin false m e in
+      let a = m * up e in
+      let c = down e in
+      let C = down-pos e in
+      let q = a / c in
+      let r = a % c in
+      let s = split a c C in
+      let o = mul-one a in
+      let w = fits-parts binary64 false m e t in
+      let v = value-q (suc q) (room-1 q q-lt) b in
+      let d : HasValue (gap x) true (c - r) c = subst (λ (z : Float). HasValue z true (c - r) c) (sym g) (few-exact binary64 true (c - r) e (w .1) (few r c (2 ^ 53) l (rest-few binary64 m e (w .0)))) in
+      record {
+        down-more = λ k. ap (λ (z : Float). sub binary64 z unit) b ∙ last-is q (room-1 q q-lt) ∙ sym (opened cut m e);
+        down-same = λ k. absurd (within (q * c) r a (a * 1) c (suc q * c) (s .0) (s .1) (s .2) o (nlt→cross x (bounced x) a c (suc q) 1 C (lit< tt) (refl, refl) v k));
+        up-more = λ k. absurd (beyond (q * c) r a (a * 1) c (suc q * c) (s .0) (s .1) (s .2) o (lt→cross (bounced x) x (suc q) 1 a c (lit< tt) C v (refl, refl) k));
+        up-same = λ k. b ∙ ap (λ (n : ℕ). ofInt binary64 (pos n)) (sym (lifted-next a c C (some r c C l))) ∙ sym (opened lifted m e);
+        near-more = λ k. absurd (minus-above (gap x) (c - r) c d (above-of-le half (gap x) tt k));
+        near-same = λ k. b ∙ ap (λ (n : ℕ). ofInt binary64 (pos n)) (sym (half-next a c C l)) ∙ sym (opened halfUp m e);
+      }
+    where
+      few : (r c p : ℕ) → c ≤ r * 2 → r < p → c - r < p
+      few r c p h k = omega arith
+
+      some : (r c : ℕ) → 0 < c → c ≤ r * 2 → 0 < r
+      some r c C h = omega arith
+
+      within : (p r a b c n : ℕ) → p + r ≡ a → r < c → n ≡ p + c → b ≡ a → n ≤ b → ⊥
+      within p r a b c n e l f g h = omega arith
+
+      beyond : (p r a b c n : ℕ) → p + r ≡ a → r < c → n ≡ p + c → b ≡ a → n < b → ⊥
+      beyond p r a b c n e l f g h = omega arith
+
+      minus-above : (z : Float) (a c : ℕ) → HasValue z true a c → T (above z) → ⊥
+      minus-above nan a c v h = v
+      minus-above (inf s) a c v h = v
+      minus-above (fin true n d) a c v h = h
+      minus-above (fin false n d) a c v h = true≢false (sym (v .0))
+
+pub small-is : (x : Float) → T (fits binary64 x) → T (lt nought x) → T (lt x limit) → Small x
+small-is x t h k =
     let w = small x h k in
-    let r : n ≡ w .0 * up (w .1) / down (w .1) = q ∙ ap (λ (y : Float). toUnsigned 64 y) (w .2) ∙ small-cut (w .0) (w .1) (w .3) in
-    whole-is n (halfUp (w .0 * up (w .1)) (down (w .1)))
-    (near-same' (w .0) (w .1) n (subst (λ (y : Float). T (fits binary64 y)) (w .2) t) (w .3) r b (subst (λ (y : Float). T (lt (add binary64 y y) (ofInt binary64 (pos (n + n + 1))))) (w .2) l))
-    ∙ sym (ap (wholeBy halfUp) (w .2))
-
-pub near-more : (x : Float) → T (fits binary64 x) → T (lt nought x) → T (lt x limit) → (n : ℕ) → n ≡ toUnsigned 64 x → n < 2 ^ 52 → T (not (lt (add binary64 x x) (ofInt binary64 (pos (n + n + 1))))) → ofInt binary64 (pos (n + 1)) ≡ wholeBy halfUp x
-unfolding wholeBy
-near-more x t h k n q b l =
-    let w = small x h k in
-    let r : n ≡ w .0 * up (w .1) / down (w .1) = q ∙ ap (λ (y : Float). toUnsigned 64 y) (w .2) ∙ small-cut (w .0) (w .1) (w .3) in
-    whole-is (n + 1) (halfUp (w .0 * up (w .1)) (down (w .1)))
-    (near-more' (w .0) (w .1) n (subst (λ (y : Float). T (fits binary64 y)) (w .2) t) (w .3) r b (subst (λ (y : Float). T (not (lt (add binary64 y y) (ofInt binary64 (pos (n + n + 1)))))) (w .2) l))
-    ∙ sym (ap (wholeBy halfUp) (w .2))
+    subst Small (sym (w .2)) (small-at (w .0) (w .1) (subst (λ (y : Float). T (fits binary64 y)) (w .2) t) (w .3) (bounce-is (w .0) (w .1) (w .3)))
 
 -- ---- a value that is whole already: from 2 ^ 52 on, and zero
 abbrev pub Keeps : (ℕ → ℕ → ℕ) → Type 0

@@ -1,9 +1,7 @@
 -- `float::remainder::rem_one` meets its contract. Assumes nothing.
 use borrow.Author.Needs.{needs}
-use lib.Dec.{T}
-use lib.Ieee.{ofBits, neg, lt}
-use Rattle.float.proofs.Compared.{nought, yes, no}
-use Rattle.float.proofs.Wholes.{limit}
+use lib.Ieee.{ofBits}
+use Rattle.float.proofs.Compared.{yes, no}
 use Rattle.float.proofs.Remainders.{Above, Below, above-is, below-is}
 use Rattle.float.proofs.remainder.rem_one.Statement.{statement}
 use Rattle.float.proofs.remainder.rem_one.Tie as tie
