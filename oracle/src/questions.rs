@@ -1,0 +1,89 @@
+//! The questions at the door. Each is asked only if those before it were answered with yes.
+
+use crate::by_stand_ins::way_in::edge_window;
+use crate::records::{ELEMENT, FIT};
+
+/// Most floats of a recording.
+pub const MOST_FLOATS: usize = 2_097_152;
+/// Largest size of a given number: 2^200.
+pub const LARGEST: f64 = f64::from_bits((1023 + 200) << 52);
+/// Positions are below this.
+pub const POSITIONS: f64 = 1_048_576.0;
+
+/// A question's number, and how its answer is found.
+pub type Question<'a> = (u64, Box<dyn Fn() -> bool + 'a>);
+
+/// The number of the first question that is answered with no, or 0.
+pub fn first_no(asked: &[Question]) -> u64 {
+    asked.iter().find(|(_, yes)| !yes()).map_or(0, |(number, _)| *number)
+}
+
+fn question<'a>(number: u64, yes: impl Fn() -> bool + 'a) -> Question<'a> {
+    (number, Box::new(yes))
+}
+
+/// B of a recording of so many floats.
+pub fn steps(iq_len: usize, fs: f64) -> usize {
+    iq_len / 2 / edge_window(fs).1
+}
+
+pub fn rate<'a>(fs: f64) -> Question<'a> {
+    question(1, move || (2_000.0..=192_000.0).contains(&fs))
+}
+
+pub fn size<'a>(iq: &'a [f32]) -> Question<'a> {
+    question(2, || iq.len() % 2 == 0 && iq.len() <= MOST_FLOATS)
+}
+
+pub fn finite<'a>(iq: &'a [f32]) -> Question<'a> {
+    question(3, || iq.iter().all(|x| x.is_finite()))
+}
+
+pub fn hint<'a>(hz: f64, fs: f64) -> Question<'a> {
+    question(4, move || hz.is_finite() && hz.abs() <= fs / 2.0)
+}
+
+/// Have lists of so many places room for what a find can list?
+pub fn room<'a>(places: &'a [usize], iq: &'a [f32], fs: f64) -> Question<'a> {
+    question(5, move || places.iter().all(|&p| p >= steps(iq.len(), fs) / 2))
+}
+
+/// Has the list of fits a place for each given element?
+pub fn room_for_each<'a>(places: usize, count: usize) -> Question<'a> {
+    question(5, move || places >= count)
+}
+
+pub fn work<'a>(len: usize, iq: &'a [f32], fs: f64) -> Question<'a> {
+    question(6, move || len >= 4 * steps(iq.len(), fs))
+}
+
+/// Given elements: their count fits the list, and their numbers are in range.
+pub fn given_elements<'a>(list: &'a [f64], count: usize) -> Question<'a> {
+    question(7, move || records_hold(list, count, ELEMENT))
+}
+
+/// A given estimate: its two numbers, its elements and its fits.
+pub fn given_estimate<'a>(carrier: [f64; 2], elements: (&'a [f64], usize), fits: (&'a [f64], usize)) -> Question<'a> {
+    question(7, move || {
+        carrier.into_iter().all(in_range)
+            && records_hold(elements.0, elements.1, ELEMENT)
+            && records_hold(fits.0, fits.1, FIT)
+    })
+}
+
+fn records_hold(list: &[f64], count: usize, numbers: usize) -> bool {
+    count <= list.len() / numbers && list.chunks_exact(numbers).take(count).all(record_holds)
+}
+
+/// In both kinds of record, up and down are the third and the fourth number.
+fn record_holds(record: &[f64]) -> bool {
+    record.iter().all(|&x| in_range(x)) && position(record[2]) && position(record[3])
+}
+
+fn in_range(x: f64) -> bool {
+    x.is_finite() && x.abs() <= LARGEST
+}
+
+fn position(x: f64) -> bool {
+    (0.0..POSITIONS).contains(&x) && x.trunc() == x
+}

@@ -1,0 +1,107 @@
+//! Records with what document 01 adds to the Rust's (up, down), and as flat numbers: four an element, eight a fit.
+
+use crate::by_stand_ins::{ElementFit, KeyedElement, StrongEstimate};
+use num_complex::{Complex32, Complex64};
+
+pub const ELEMENT: usize = 4;
+pub const FIT: usize = 8;
+
+#[derive(Debug, Clone, Copy)]
+pub struct Element {
+    pub start: f64,
+    pub end: f64,
+    pub up: f64,
+    pub down: f64,
+}
+
+impl Element {
+    pub fn read(flat: &[f64]) -> Element {
+        Element { start: flat[0], end: flat[1], up: flat[2], down: flat[3] }
+    }
+
+    pub fn flat(&self) -> [f64; ELEMENT] {
+        [self.start, self.end, self.up, self.down]
+    }
+
+    /// The Rust's record of it.
+    pub fn keyed(&self) -> KeyedElement {
+        KeyedElement { start: self.start, end: self.end }
+    }
+}
+
+#[derive(Debug, Clone, Copy)]
+pub struct Fit {
+    pub element: Element,
+    pub gain: Complex64,
+    pub slope: f64,
+    pub reference: f64,
+}
+
+impl Fit {
+    pub fn read(flat: &[f64]) -> Fit {
+        Fit {
+            element: Element::read(flat),
+            gain: Complex64::new(flat[4], flat[5]),
+            slope: flat[6],
+            reference: flat[7],
+        }
+    }
+
+    pub fn flat(&self) -> [f64; FIT] {
+        let e = self.element;
+        [e.start, e.end, e.up, e.down, self.gain.re, self.gain.im, self.slope, self.reference]
+    }
+
+    pub fn fitted(&self) -> ElementFit {
+        ElementFit {
+            element: self.element.keyed(),
+            gain: self.gain,
+            slope_rad_per_sample: self.slope,
+            ref_sample: self.reference,
+        }
+    }
+}
+
+#[derive(Debug, Clone)]
+pub struct Estimate {
+    pub carrier_hz: f64,
+    pub carrier_step_hz: f64,
+    pub elements: Vec<Element>,
+    pub fits: Vec<Fit>,
+}
+
+impl Estimate {
+    pub fn strong(&self) -> StrongEstimate {
+        StrongEstimate {
+            carrier_hz: self.carrier_hz,
+            carrier_step_hz: self.carrier_step_hz,
+            fits: self.fits.iter().map(Fit::fitted).collect(),
+            elements: self.elements.iter().map(Element::keyed).collect(),
+        }
+    }
+}
+
+pub fn elements(flat: &[f64], count: usize) -> Vec<Element> {
+    flat.chunks_exact(ELEMENT).take(count).map(Element::read).collect()
+}
+
+pub fn fits(flat: &[f64], count: usize) -> Vec<Fit> {
+    flat.chunks_exact(FIT).take(count).map(Fit::read).collect()
+}
+
+pub fn flat_elements(list: &[Element]) -> Vec<f64> {
+    list.iter().flat_map(Element::flat).collect()
+}
+
+pub fn flat_fits(list: &[Fit]) -> Vec<f64> {
+    list.iter().flat_map(Fit::flat).collect()
+}
+
+/// The samples of a recording lent as floats.
+pub fn samples(iq: &[f32]) -> Vec<Complex32> {
+    iq.chunks_exact(2).map(|p| Complex32::new(p[0], p[1])).collect()
+}
+
+pub fn floats(samples: &[Complex32]) -> Vec<f32> {
+    samples.iter().flat_map(|x| [x.re, x.im]).collect()
+}

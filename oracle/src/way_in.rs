@@ -1,0 +1,31 @@
+// From here on not of cancel.rs: a way in to what it keeps private.
+pub mod way_in {
+    use super::*;
+
+    pub fn edge_window(fs: f64) -> (usize, usize) {
+        super::edge_window(fs)
+    }
+
+    pub fn block_means(iq: &[Complex32], fs: f64, carrier_hz: f64, len: usize) -> Vec<Complex64> {
+        super::block_means(iq, fs, carrier_hz, len)
+    }
+
+    pub fn percentile(v: &mut [f64], p: f64) -> Option<f64> {
+        super::percentile(v, p)
+    }
+
+    pub fn mean_slope_hz(fits: &[ElementFit], fs: f64) -> f64 {
+        super::mean_slope_hz(fits, fs)
+    }
+
+    pub fn fit_span(f: &ElementFit, fs: f64, n: usize) -> (usize, usize) {
+        super::fit_span(f, fs, n)
+    }
+
+    /// How many blocks end as edge, interior, gap and other.
+    pub fn class_counts(blocks: usize, len: usize, fs: f64, n: usize, est: &StrongEstimate) -> [usize; 4] {
+        let class = super::classify_blocks(blocks, len, fs, n, est);
+        let all = [BlockClass::Edge, BlockClass::Interior, BlockClass::Gap, BlockClass::Other];
+        all.map(|one| class.iter().filter(|&&c| c == one).count())
+    }
+}
