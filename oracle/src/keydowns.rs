@@ -2,7 +2,7 @@
 //! ones are held against the Rust's own list.
 
 use crate::by_stand_ins::way_in::{block_means, edge_window, percentile};
-use crate::by_stand_ins::{find_elements, EDGE_PERCENTILE, RISE_S};
+use crate::by_stand_ins::{find_elements, KeyedElement, EDGE_PERCENTILE, RISE_S};
 use crate::records::Element;
 use crate::stand_ins::norm;
 use num_complex::{Complex32, Complex64};
@@ -48,7 +48,13 @@ pub fn key_downs(row: &[f64], threshold: f64) -> Vec<(usize, usize)> {
         .collect()
 }
 
+/// The key-downs of a recording. The listed ones must be those that the Rust lists.
 pub fn find(iq: &[Complex32], fs: f64, carrier_hz: f64) -> Found {
+    key_downs_beside(iq, fs, carrier_hz, &find_elements(iq, fs, carrier_hz))
+}
+
+/// The key-downs beside the list that the Rust made at the same carrier.
+pub fn key_downs_beside(iq: &[Complex32], fs: f64, carrier_hz: f64, listed: &[KeyedElement]) -> Found {
     let (window, step) = edge_window(fs);
     let row = row(iq, fs, carrier_hz);
     let threshold = threshold(&row);
@@ -68,12 +74,7 @@ pub fn find(iq: &[Complex32], fs: f64, carrier_hz: f64) -> Found {
             found.short += 1;
         }
     }
-    agree(&found.elements, iq, fs, carrier_hz);
+    let mine: Vec<KeyedElement> = found.elements.iter().map(Element::keyed).collect();
+    assert_eq!(mine, listed, "key-downs beside the Rust's list");
     found
-}
-
-/// The listed elements are those that the Rust itself lists.
-fn agree(elements: &[Element], iq: &[Complex32], fs: f64, carrier_hz: f64) {
-    let listed = find_elements(iq, fs, carrier_hz);
-    assert_eq!(elements.iter().map(Element::keyed).collect::<Vec<_>>(), listed, "key-downs beside the Rust's list");
 }

@@ -1,40 +1,44 @@
 //! Fits and estimate with positions (document 01, part 4), and the run of part 7.
 
-use crate::by_stand_ins::way_in::{class_counts, edge_window, mean_slope_hz};
+use crate::by_stand_ins::way_in::{class_counts, edge_window};
 use crate::by_stand_ins::{
-    classify, estimate_strong, fit_elements, residual_check, second_carrier_evidence, subtract, Hypothesis,
-    ResidualCheck, SecondCarrierEvidence, MAX_CARRIER_STEP_HZ, MIN_ELEMENTS,
+    classify, estimate_strong, fit_elements, residual_check, second_carrier_evidence, subtract, ElementFit,
+    Hypothesis, KeyedElement, ResidualCheck, SecondCarrierEvidence, MAX_CARRIER_STEP_HZ, MIN_ELEMENTS,
 };
-use crate::keydowns::{find, Found};
+use crate::keydowns::{key_downs_beside, Found};
 use crate::records::{Element, Estimate, Fit};
 use num_complex::Complex32;
 
-/// The Rust's fits, each with the positions of its element. The Rust fits each element by itself, so one at a time.
+/// The Rust's fits, each with the positions of its element.
 pub fn fit(iq: &[Complex32], fs: f64, carrier_hz: f64, elements: &[Element]) -> Vec<Fit> {
-    elements
-        .iter()
-        .flat_map(|&element| {
-            let fitted = fit_elements(iq, fs, carrier_hz, &[element.keyed()]);
-            fitted.into_iter().map(move |f| Fit {
-                element,
-                gain: f.gain,
-                slope: f.slope_rad_per_sample,
-                reference: f.ref_sample,
-            })
+    let keyed: Vec<KeyedElement> = elements.iter().map(Element::keyed).collect();
+    with_positions(&fit_elements(iq, fs, carrier_hz, &keyed), elements)
+}
+
+/// Fits come in the order of their elements, and whether an element gets one hangs on its times alone: a fit belongs to
+/// the next element of the same times.
+fn with_positions(fits: &[ElementFit], elements: &[Element]) -> Vec<Fit> {
+    let mut rest = elements.iter();
+    fits.iter()
+        .map(|f| Fit {
+            element: *rest.find(|e| e.keyed() == f.element).expect("a fit without its element"),
+            gain: f.gain,
+            slope: f.slope_rad_per_sample,
+            reference: f.ref_sample,
         })
         .collect()
 }
 
-/// The estimate, and the second pass's find. It is held against the Rust's own answer.
+/// The Rust's estimate with positions, and the key-downs of its second find.
 pub fn estimate(iq: &[Complex32], fs: f64, hint_hz: f64) -> (Found, Estimate) {
-    let first = find(iq, fs, hint_hz).elements;
-    let fits: Vec<_> = fit(iq, fs, hint_hz, &first).iter().map(Fit::fitted).collect();
-    let carrier_step_hz = mean_slope_hz(&fits, fs);
-    let carrier_hz = hint_hz + carrier_step_hz;
-    let found = find(iq, fs, carrier_hz);
-    let fits = fit(iq, fs, carrier_hz, &found.elements);
-    let estimate = Estimate { carrier_hz, carrier_step_hz, elements: found.elements.clone(), fits };
-    assert_eq!(estimate.strong(), estimate_strong(iq, fs, hint_hz), "the estimate beside the Rust's");
+    let strong = estimate_strong(iq, fs, hint_hz);
+    let found = key_downs_beside(iq, fs, strong.carrier_hz, &strong.elements);
+    let estimate = Estimate {
+        carrier_hz: strong.carrier_hz,
+        carrier_step_hz: strong.carrier_step_hz,
+        fits: with_positions(&strong.fits, &found.elements),
+        elements: found.elements.clone(),
+    };
     (found, estimate)
 }
 

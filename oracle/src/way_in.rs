@@ -14,10 +14,6 @@ pub mod way_in {
         super::percentile(v, p)
     }
 
-    pub fn mean_slope_hz(fits: &[ElementFit], fs: f64) -> f64 {
-        super::mean_slope_hz(fits, fs)
-    }
-
     pub fn fit_span(f: &ElementFit, fs: f64, n: usize) -> (usize, usize) {
         super::fit_span(f, fs, n)
     }

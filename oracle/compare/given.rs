@@ -1,0 +1,136 @@
+//! Estimates to be handed in: the recording's own, one pulled about, or one of any numbers that are admitted.
+
+use crate::random::Random;
+use crate::scene::{Estimate, Recording};
+use oracle::questions::{LARGEST, POSITIONS};
+use oracle::records::{self, ELEMENT, FIT};
+use oracle::run;
+
+/// The estimate that the oracle makes of the recording.
+pub fn own(rec: &Recording) -> Estimate {
+    let (_, est) = run::estimate(&records::samples(&rec.iq), rec.fs, rec.hint_hz);
+    Estimate {
+        carrier_hz: est.carrier_hz,
+        carrier_step_hz: est.carrier_step_hz,
+        element_count: est.elements.len(),
+        elements: records::flat_elements(&est.elements),
+        fit_count: est.fits.len(),
+        fits: records::flat_fits(&est.fits),
+    }
+}
+
+/// The recording's own estimate or one made from it, in lists that may be longer than the count.
+pub fn estimate(rec: &Recording, r: &mut Random) -> Estimate {
+    let mut est = own(rec);
+    match r.whole(0, 4) {
+        0 => pulled(&mut est, rec, r),
+        1 => made_up(&mut est, rec, r),
+        _ => {}
+    }
+    pad(&mut est.elements, r);
+    pad(&mut est.fits, r);
+    est
+}
+
+/// Places past the count, and a rest that is no place. They are not read, so they may hold anything.
+fn pad(list: &mut Vec<f64>, r: &mut Random) {
+    if r.chance(0.5) {
+        list.extend((0..r.whole(0, 20)).map(|_| f64::from_bits(r.bits())));
+    }
+}
+
+/// Few records, so that huge spans stay cheap.
+const MOST: usize = 12;
+
+fn pulled(est: &mut Estimate, rec: &Recording, r: &mut Random) {
+    est.element_count = est.element_count.min(MOST);
+    est.elements.truncate(est.element_count * ELEMENT);
+    est.fit_count = est.fit_count.min(MOST);
+    est.fits.truncate(est.fit_count * FIT);
+    for record in est.elements.chunks_exact_mut(ELEMENT) {
+        pull_element(record, rec, r);
+    }
+    for record in est.fits.chunks_exact_mut(FIT) {
+        pull_element(record, rec, r);
+        pull_fit(record, r);
+    }
+    if r.chance(0.3) {
+        est.carrier_hz = number(r);
+        est.carrier_step_hz = number(r);
+    }
+}
+
+fn made_up(est: &mut Estimate, rec: &Recording, r: &mut Random) {
+    let n = rec.iq.len() as f64 / 2.0;
+    est.element_count = r.whole(0, MOST);
+    est.fit_count = r.whole(0, MOST);
+    let element = |r: &mut Random| {
+        let start = r.between(-0.2 * n, 1.1 * n);
+        let end = start + r.between(-0.05, 0.4) * n;
+        [start, end, position(r), position(r)]
+    };
+    est.elements = (0..est.element_count).flat_map(|_| element(r)).collect();
+    est.fits.clear();
+    for _ in 0..est.fit_count {
+        est.fits.extend(element(r));
+        let gain = [r.between(-1.0, 1.0), r.between(-1.0, 1.0)];
+        let slope = r.between(-0.1, 0.1);
+        let reference = r.between(0.0, n);
+        est.fits.extend([gain[0], gain[1], slope, reference]);
+    }
+    est.carrier_hz = r.between(-1.0, 1.0) * rec.fs;
+}
+
+/// Moves an element: overlapping, outside, backwards or huge.
+fn pull_element(record: &mut [f64], rec: &Recording, r: &mut Random) {
+    let n = rec.iq.len() as f64 / 2.0;
+    match r.whole(0, 9) {
+        0 => record.swap(0, 1),
+        1 => record[0] -= r.between(0.0, n),
+        2 => record[1] += r.between(0.0, n),
+        3 => record[0] = number(r),
+        4 => record[1] = number(r),
+        5 => {
+            record[0] += 2.0 * n;
+            record[1] += 2.0 * n;
+        }
+        6 => record[1] = record[0],
+        7 => {
+            record[0] = record[0].round();
+            record[1] = record[1].round() + 0.5;
+        }
+        _ => {}
+    }
+    if r.chance(0.3) {
+        record[2] = position(r);
+        record[3] = position(r);
+    }
+}
+
+fn pull_fit(record: &mut [f64], r: &mut Random) {
+    if r.chance(0.5) {
+        let at = r.whole(4, FIT);
+        record[at] = number(r);
+    }
+}
+
+/// Any number that the seventh question admits.
+fn number(r: &mut Random) -> f64 {
+    let sign = if r.chance(0.5) { 1.0 } else { -1.0 };
+    sign * match r.whole(0, 6) {
+        0 => LARGEST,
+        1 => 0.0,
+        2 => f64::from_bits(r.bits() % LARGEST.to_bits()),
+        3 => r.between(0.0, 1e6).round(),
+        4 => 5e-324,
+        _ => r.between(0.0, 3_000.0),
+    }
+}
+
+fn position(r: &mut Random) -> f64 {
+    match r.whole(0, 5) {
+        0 => -0.0,
+        1 => POSITIONS - 1.0,
+        _ => r.whole(0, POSITIONS as usize) as f64,
+    }
+}

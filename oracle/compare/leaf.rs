@@ -1,0 +1,158 @@
+//! The arithmetic: sin, cos, arg, norm, log10, narrow on single numbers.
+
+use crate::ask::{Asker, Compared, Difference};
+use crate::lent::Bits;
+use crate::library;
+use crate::random::Random;
+use oracle::stand_ins;
+use std::f64::consts::{PI, TAU};
+
+/// Numbers that every function is asked about.
+const SPECIAL: [f64; 22] = [
+    0.0, -0.0, 1.0, -1.0, 0.5, -0.5, 2.0, 1.5, 0.75, PI, -PI, TAU, 7.0, -7.0,
+    f64::INFINITY, f64::NEG_INFINITY, f64::NAN, f64::MAX, f64::MIN, f64::MIN_POSITIVE, 5e-324, -5e-324,
+];
+
+impl Asker {
+    /// All special numbers and their neighbours.
+    pub fn special_numbers(&mut self) -> Compared {
+        for a in SPECIAL {
+            for x in [a, a.next_up(), a.next_down()] {
+                self.of_one(x)?;
+                for y in SPECIAL {
+                    self.of_two(x, y)?;
+                    self.of_two(y, x)?;
+                }
+            }
+        }
+        Ok(())
+    }
+
+    /// So many numbers of each kind by chance.
+    pub fn numbers(&mut self, times: usize) -> Compared {
+        for _ in 0..times {
+            let angle = angle(&mut self.random);
+            self.sin(angle)?;
+            self.cos(angle)?;
+            let (re, im) = pair(&mut self.random);
+            self.of_two(re, im)?;
+            let y = positive(&mut self.random);
+            self.log10(y)?;
+            let x = narrowed(&mut self.random);
+            self.narrow(x)?;
+            let any = f64::from_bits(self.random.bits());
+            self.of_one(any)?;
+        }
+        Ok(())
+    }
+
+    fn of_one(&mut self, x: f64) -> Compared {
+        self.sin(x)?;
+        self.cos(x)?;
+        self.log10(x)?;
+        self.narrow(x)
+    }
+
+    fn of_two(&mut self, re: f64, im: f64) -> Compared {
+        let handed = || format!("({re:?}, {im:?})");
+        self.leaf("cancel_arg", handed, || unsafe { library::cancel_arg(re, im) }, || stand_ins::arg(re, im))?;
+        self.leaf("cancel_norm", handed, || unsafe { library::cancel_norm(re, im) }, || stand_ins::norm(re, im))
+    }
+
+    fn sin(&mut self, x: f64) -> Compared {
+        self.leaf("cancel_sin", || format!("{x:?}"), || unsafe { library::cancel_sin(x) }, || stand_ins::sin(x))
+    }
+
+    fn cos(&mut self, x: f64) -> Compared {
+        self.leaf("cancel_cos", || format!("{x:?}"), || unsafe { library::cancel_cos(x) }, || stand_ins::cos(x))
+    }
+
+    fn log10(&mut self, x: f64) -> Compared {
+        self.leaf("cancel_log10", || format!("{x:?}"), || unsafe { library::cancel_log10(x) }, || stand_ins::log10(x))
+    }
+
+    fn narrow(&mut self, x: f64) -> Compared {
+        self.leaf("cancel_narrow", || format!("{x:?}"), || unsafe { library::cancel_narrow(x) }, || stand_ins::narrow(x))
+    }
+
+    fn leaf<T: Bits>(
+        &mut self,
+        call: &'static str,
+        handed: impl Fn() -> String,
+        library: impl Fn() -> T,
+        oracle: impl Fn() -> T,
+    ) -> Compared {
+        if !library::present(call) {
+            return Ok(());
+        }
+        let (a, b) = (library(), oracle());
+        if !a.same(b) {
+            let what = format!("of {}: library {:?}, oracle {:?}", handed(), a.wide(), b.wide());
+            return Err(Difference { call, what });
+        }
+        self.tally.equal(call, false);
+        Ok(())
+    }
+}
+
+/// An angle in a turn, about a place of the table or halfway between two, or a little beyond 7.
+fn angle(r: &mut Random) -> f64 {
+    match r.whole(0, 4) {
+        0 => r.between(0.0, TAU),
+        1 => r.between(-7.1, 7.1),
+        2 => {
+            let half_places = r.whole(0, 2 * 4600) as f64 - 4600.0;
+            let x = half_places * (PI / 4096.0);
+            r.about(x)
+        }
+        _ => f64::from_bits(r.bits() % 7f64.to_bits()),
+    }
+}
+
+/// Two parts of like or unlike size, about a place of the arctangents' table, or of whole numbers.
+fn pair(r: &mut Random) -> (f64, f64) {
+    let signed = |r: &mut Random, x: f64| if r.chance(0.5) { x } else { -x };
+    let (a, b) = match r.whole(0, 4) {
+        0 => (r.unit(), r.unit()),
+        1 => {
+            let larger = r.between(1e-30, 1e30);
+            let half_places = r.whole(0, 129) as f64;
+            let smaller = larger * (half_places / 128.0);
+            (larger, r.about(smaller))
+        }
+        2 => ((r.bits() >> 40) as f64, (r.bits() >> 40) as f64),
+        _ => (f64::from_bits(r.bits()), f64::from_bits(r.bits())),
+    };
+    let (a, b) = if r.chance(0.5) { (a, b) } else { (b, a) };
+    (signed(r, a), signed(r, b))
+}
+
+/// A positive number, often about m = 0.75 or 1.5.
+fn positive(r: &mut Random) -> f64 {
+    let exponent = r.whole(0, 2046) as u64;
+    match r.whole(0, 3) {
+        0 => {
+            let border = f64::from_bits(exponent << 52 | 1 << 51);
+            r.about(border)
+        }
+        1 => r.between(1e-6, 1e6),
+        _ => f64::from_bits(exponent << 52 | r.bits() >> 12),
+    }
+}
+
+/// A number about an f32 or halfway between two, of any size.
+fn narrowed(r: &mut Random) -> f64 {
+    let single = f32::from_bits(r.bits() as u32);
+    let x = single as f64;
+    match r.whole(0, 3) {
+        0 => r.about(x),
+        1 => {
+            let halfway = (x + single.next_up() as f64) / 2.0;
+            r.about(halfway)
+        }
+        _ => {
+            let shift = r.between(-160.0, 140.0).floor() as i32;
+            r.between(-2.0, 2.0) * 2f64.powi(shift)
+        }
+    }
+}

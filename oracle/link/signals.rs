@@ -1,0 +1,65 @@
+//! Made-up recordings: keyed senders with ramps and noise, and rows that are hard on a threshold or a selection.
+
+use crate::random::Random;
+use oracle::stand_ins::{cos, sin};
+use std::f64::consts::{PI, TAU};
+
+/// A keyed sender: where it stands, how strong, and how long its key unit is.
+pub struct Sender {
+    pub hz: f64,
+    pub amplitude: f64,
+    pub unit_s: f64,
+}
+
+/// Raised-cosine ramp, 0 to 100 %.
+const RAMP_S: f64 = 5e-3;
+
+impl Sender {
+    /// Adds the sender's samples: marks of one or three units, spaces of one, three or seven.
+    pub fn add(&self, sum: &mut [(f64, f64)], fs: f64, r: &mut Random) {
+        let phase = r.between(0.0, TAU);
+        let mut at = r.between(0.0, 0.3) * fs;
+        while at < sum.len() as f64 {
+            let mark = r.pick(&[1.0, 1.0, 3.0]) * self.unit_s * fs;
+            self.mark(sum, fs, at, at + mark, phase);
+            at += mark + r.pick(&[1.0, 1.0, 3.0, 7.0]) * self.unit_s * fs;
+        }
+    }
+
+    fn mark(&self, sum: &mut [(f64, f64)], fs: f64, start: f64, end: f64, phase: f64) {
+        let pad = RAMP_S * fs;
+        let lo = (start - pad).max(0.0) as usize;
+        let hi = ((end + pad) as usize).min(sum.len());
+        for (k, z) in sum.iter_mut().enumerate().take(hi).skip(lo) {
+            let t = k as f64;
+            let strength = self.amplitude * (ramp((t - start) / fs) - ramp((t - end) / fs));
+            let angle = ((self.hz / fs * t).rem_euclid(1.0) * TAU + phase).rem_euclid(TAU);
+            z.0 += strength * cos(angle);
+            z.1 += strength * sin(angle);
+        }
+    }
+}
+
+fn ramp(t: f64) -> f64 {
+    if t <= -RAMP_S / 2.0 {
+        0.0
+    } else if t >= RAMP_S / 2.0 {
+        1.0
+    } else {
+        0.5 + 0.5 * sin(PI * t / RAMP_S)
+    }
+}
+
+/// n samples of all senders and noise of this size in each part.
+pub fn senders(n: usize, fs: f64, all: &[Sender], noise: f64, r: &mut Random) -> Vec<f32> {
+    let mut sum = vec![(0.0, 0.0); n];
+    for sender in all {
+        sender.add(&mut sum, fs, r);
+    }
+    sum.iter().flat_map(|z| [(z.0 + noise * r.noise()) as f32, (z.1 + noise * r.noise()) as f32]).collect()
+}
+
+/// n samples, each by its number, the imaginary part 0.
+pub fn real(n: usize, value: impl Fn(usize) -> f32) -> Vec<f32> {
+    (0..n).flat_map(|k| [value(k), 0.0]).collect()
+}
