@@ -31,9 +31,8 @@ const REDIRECTIONS: [Redirection; 10] = [
 pub const IMPORTS: &str = "use crate::stand_ins::{StandIn as _, StandInComplex as _};";
 
 /// Functions of the platform that the text must not call, since no stand-in is named for them.
-const NONE: [&str; 11] = [
-    ".sqrt(", ".hypot(", ".atan(", ".atan2(", ".tan(", ".sin_cos(", ".exp(", ".ln(", ".powi(", ".powf(", ".mul_add(",
-];
+const NONE: [&str; 11] =
+    [".sqrt(", ".hypot(", ".atan(", ".atan2(", ".tan(", ".sin_cos(", ".exp(", ".ln(", ".powi(", ".powf(", ".mul_add("];
 
 pub fn redirected(text: &str) -> Result<String, String> {
     let mut out = text.to_string();

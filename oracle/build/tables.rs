@@ -21,10 +21,7 @@ pub fn sines() -> Vec<u64> {
 
 fn sine(i: u128) -> u64 {
     const P: u128 = 3141592653589793238462643383279;
-    let x = Fraction {
-        over: Big::of(i).times(&Big::of(P)),
-        under: Big::of(2048).times(&Big::of(10u128.pow(30))),
-    };
+    let x = Fraction { over: Big::of(i).times(&Big::of(P)), under: Big::of(2048).times(&Big::of(10u128.pow(30))) };
     let (a, b) = (x.over.times(&x.over), x.under.times(&x.under));
     // x(1 - x²/(2·3) (1 - x²/(4·5) (.. (1 - x²/(26·27))))), from the inside out.
     let mut t = Fraction { over: Big::of(1), under: Big::of(1) };
@@ -49,10 +46,7 @@ fn arctangent(j: u128) -> u64 {
         let over = under.plus(&t.over.times(&Big::of(2 * (m + 1) * square)));
         t = Fraction { over, under };
     }
-    nearest(&Fraction {
-        over: t.over.times(&Big::of(64 * j)),
-        under: t.under.times(&Big::of(whole)),
-    })
+    nearest(&Fraction { over: t.over.times(&Big::of(64 * j)), under: t.under.times(&Big::of(whole)) })
 }
 
 /// The table as a Rust array.

@@ -2,10 +2,10 @@
 
 use crate::lent::{Lent, Zone};
 use crate::library;
-use crate::random::Random;
 use crate::scene::Scene;
 use crate::tally::Tally;
 use oracle::calls::{self, Answer, Outcome};
+use oracle::random::Random;
 use oracle::records::{ELEMENT, FIT};
 
 /// The first difference of a comparison.
@@ -88,8 +88,15 @@ impl Asker {
         let mut figures = Lent::any("figures", 4, &mut self.random);
         let status = unsafe {
             library::cancel_find_elements(
-                iq.pointer(), iq.len(), rec.fs, rec.hint_hz,
-                elements.pointer(), elements.len(), work.pointer(), work.len(), figures.pointer(),
+                iq.pointer(),
+                iq.len(),
+                rec.fs,
+                rec.hint_hz,
+                elements.pointer(),
+                elements.len(),
+                work.pointer(),
+                work.len(),
+                figures.pointer(),
             )
         };
         let outcome = calls::find_elements(&rec.iq, rec.fs, rec.hint_hz, s.elements_len, s.work_len);
@@ -116,13 +123,28 @@ impl Asker {
         let mut figures = Lent::any("figures", 1, &mut self.random);
         let status = unsafe {
             library::cancel_fit_elements(
-                iq.pointer(), iq.len(), rec.fs, rec.hint_hz,
-                elements.pointer(), elements.len(), given.element_count,
-                fits.pointer(), fits.len(), work.pointer(), work.len(), figures.pointer(),
+                iq.pointer(),
+                iq.len(),
+                rec.fs,
+                rec.hint_hz,
+                elements.pointer(),
+                elements.len(),
+                given.element_count,
+                fits.pointer(),
+                fits.len(),
+                work.pointer(),
+                work.len(),
+                figures.pointer(),
             )
         };
         let outcome = calls::fit_elements(
-            &rec.iq, rec.fs, rec.hint_hz, &given.elements, given.element_count, s.given_fits_len, s.work_len,
+            &rec.iq,
+            rec.fs,
+            rec.hint_hz,
+            &given.elements,
+            given.element_count,
+            s.given_fits_len,
+            s.work_len,
         );
         self.judge(CALL, status, &outcome, &[&iq, &elements, &fits, &work, &figures], |answer| {
             iq.untouched("though only read")?;
@@ -147,13 +169,20 @@ impl Asker {
         let mut figures = Lent::any("figures", 7, &mut self.random);
         let status = unsafe {
             library::cancel_estimate_strong(
-                iq.pointer(), iq.len(), rec.fs, rec.hint_hz,
-                elements.pointer(), elements.len(), fits.pointer(), fits.len(),
-                work.pointer(), work.len(), figures.pointer(),
+                iq.pointer(),
+                iq.len(),
+                rec.fs,
+                rec.hint_hz,
+                elements.pointer(),
+                elements.len(),
+                fits.pointer(),
+                fits.len(),
+                work.pointer(),
+                work.len(),
+                figures.pointer(),
             )
         };
-        let outcome =
-            calls::estimate_strong(&rec.iq, rec.fs, rec.hint_hz, s.elements_len, s.fits_len, s.work_len);
+        let outcome = calls::estimate_strong(&rec.iq, rec.fs, rec.hint_hz, s.elements_len, s.fits_len, s.work_len);
         self.judge(CALL, status, &outcome, &[&iq, &elements, &fits, &work, &figures], |answer| {
             iq.untouched("though only read")?;
             figures.holds(&answer.figures)?;
@@ -203,10 +232,20 @@ impl Asker {
         let mut figures = Lent::any("figures", 5, &mut self.random);
         let status = unsafe {
             library(
-                iq.pointer(), iq.len(), rec.fs, given.carrier_hz, given.carrier_step_hz,
-                elements.pointer(), elements.len(), given.element_count,
-                fits.pointer(), fits.len(), given.fit_count,
-                work.pointer(), work.len(), figures.pointer(),
+                iq.pointer(),
+                iq.len(),
+                rec.fs,
+                given.carrier_hz,
+                given.carrier_step_hz,
+                elements.pointer(),
+                elements.len(),
+                given.element_count,
+                fits.pointer(),
+                fits.len(),
+                given.fit_count,
+                work.pointer(),
+                work.len(),
+                figures.pointer(),
             )
         };
         self.judge(call, status, outcome, &[&iq, &elements, &fits, &work, &figures], |answer| {
@@ -225,9 +264,17 @@ impl Asker {
         let mut fits = Lent::holding("fits", &given.fits, &mut self.random);
         let status = unsafe {
             library::cancel_subtract(
-                buf.pointer(), buf.len(), rec.fs, given.carrier_hz, given.carrier_step_hz,
-                elements.pointer(), elements.len(), given.element_count,
-                fits.pointer(), fits.len(), given.fit_count,
+                buf.pointer(),
+                buf.len(),
+                rec.fs,
+                given.carrier_hz,
+                given.carrier_step_hz,
+                elements.pointer(),
+                elements.len(),
+                given.element_count,
+                fits.pointer(),
+                fits.len(),
+                given.fit_count,
             )
         };
         let outcome = calls::subtract(&rec.iq, rec.fs, &given.given());
@@ -252,9 +299,17 @@ impl Asker {
         let mut figures = Lent::any("figures", 28, &mut self.random);
         let status = unsafe {
             library::cancel_run(
-                buf.pointer(), buf.len(), rec.fs, rec.hint_hz,
-                elements.pointer(), elements.len(), fits.pointer(), fits.len(),
-                work.pointer(), work.len(), figures.pointer(),
+                buf.pointer(),
+                buf.len(),
+                rec.fs,
+                rec.hint_hz,
+                elements.pointer(),
+                elements.len(),
+                fits.pointer(),
+                fits.len(),
+                work.pointer(),
+                work.len(),
+                figures.pointer(),
             )
         };
         let outcome = calls::run(&rec.iq, rec.fs, rec.hint_hz, s.elements_len, s.fits_len, s.work_len);
@@ -281,7 +336,9 @@ impl Asker {
             unsafe { library::cancel_classify(gap_blocks, hot, present, offset, coherence, figures.pointer()) };
         let outcome = calls::classify(gap_blocks, hot, present, offset, coherence);
         self.judge(CALL, status, &outcome, &[&figures], |answer| figures.holds(&answer.figures)).map_err(|d| {
-            let handed = format!("gap_blocks {gap_blocks}, hot {hot:?}, present {present}, offset {offset:?}, coherence {coherence:?}");
+            let handed = format!(
+                "gap_blocks {gap_blocks}, hot {hot:?}, present {present}, offset {offset:?}, coherence {coherence:?}"
+            );
             Difference { what: format!("{} for {handed}", d.what), ..d }
         })
     }
@@ -295,7 +352,20 @@ impl Asker {
 
 /// Residual check or evidence.
 type Measure = unsafe extern "C" fn(
-    *const f32, usize, f64, f64, f64, *const f64, usize, usize, *const f64, usize, usize, *mut f64, usize, *mut f64,
+    *const f32,
+    usize,
+    f64,
+    f64,
+    f64,
+    *const f64,
+    usize,
+    usize,
+    *const f64,
+    usize,
+    usize,
+    *mut f64,
+    usize,
+    *mut f64,
 ) -> u64;
 
 /// The buffer is the oracle's, and outside of the spans it keeps every bit.

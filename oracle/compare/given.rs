@@ -1,8 +1,8 @@
 //! Estimates to be handed in: the recording's own, one pulled about, or one of any numbers that are admitted.
 
-use crate::random::Random;
 use crate::scene::{Estimate, Recording};
 use oracle::questions::{LARGEST, POSITIONS};
+use oracle::random::Random;
 use oracle::records::{self, ELEMENT, FIT};
 use oracle::run;
 

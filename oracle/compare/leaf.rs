@@ -3,14 +3,34 @@
 use crate::ask::{Asker, Compared, Difference};
 use crate::lent::Bits;
 use crate::library;
-use crate::random::Random;
+use oracle::random::Random;
 use oracle::stand_ins;
 use std::f64::consts::{PI, TAU};
 
 /// Numbers that every function is asked about.
 const SPECIAL: [f64; 22] = [
-    0.0, -0.0, 1.0, -1.0, 0.5, -0.5, 2.0, 1.5, 0.75, PI, -PI, TAU, 7.0, -7.0,
-    f64::INFINITY, f64::NEG_INFINITY, f64::NAN, f64::MAX, f64::MIN, f64::MIN_POSITIVE, 5e-324, -5e-324,
+    0.0,
+    -0.0,
+    1.0,
+    -1.0,
+    0.5,
+    -0.5,
+    2.0,
+    1.5,
+    0.75,
+    PI,
+    -PI,
+    TAU,
+    7.0,
+    -7.0,
+    f64::INFINITY,
+    f64::NEG_INFINITY,
+    f64::NAN,
+    f64::MAX,
+    f64::MIN,
+    f64::MIN_POSITIVE,
+    5e-324,
+    -5e-324,
 ];
 
 impl Asker {
@@ -72,7 +92,12 @@ impl Asker {
     }
 
     fn narrow(&mut self, x: f64) -> Compared {
-        self.leaf("cancel_narrow", || format!("{x:?}"), || unsafe { library::cancel_narrow(x) }, || stand_ins::narrow(x))
+        self.leaf(
+            "cancel_narrow",
+            || format!("{x:?}"),
+            || unsafe { library::cancel_narrow(x) },
+            || stand_ins::narrow(x),
+        )
     }
 
     fn leaf<T: Bits>(

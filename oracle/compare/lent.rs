@@ -1,6 +1,6 @@
 //! Slices lent to the library, each between two guard zones, with what they held before the call.
 
-use crate::random::Random;
+use oracle::random::Random;
 
 /// A float of either width, seen as its bits.
 pub trait Bits: Copy {

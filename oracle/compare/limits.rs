@@ -5,11 +5,11 @@ use crate::ask::{Asker, Compared};
 use crate::given;
 use crate::library;
 use crate::noes;
-use crate::random::Random;
 use crate::recordings::change_of_step;
 use crate::scene::{Recording, Scene};
-use crate::signals::{real, senders, Sender};
 use oracle::by_stand_ins::way_in::edge_window;
+use oracle::random::Random;
+use oracle::signals::{real, senders, Sender};
 
 impl Asker {
     /// A scene of the recording with its own estimate.

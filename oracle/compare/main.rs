@@ -11,16 +11,12 @@ mod lent;
 mod library;
 mod limits;
 mod noes;
-#[path = "../link/random.rs"]
-mod random;
 mod recordings;
 mod scene;
-#[path = "../link/signals.rs"]
-mod signals;
 mod tally;
 
 use ask::{Asker, Compared, Difference};
-use random::Random;
+use oracle::random::Random;
 use scene::Scene;
 use std::process::ExitCode;
 use std::time::{Duration, Instant};
@@ -56,7 +52,9 @@ fn main() -> ExitCode {
         }
     };
     if !library::CALLS.iter().any(|(_, present)| *present) {
-        eprintln!("compare: no call to compare: this program is linked with no library, or with one that has none of them");
+        eprintln!(
+            "compare: no call to compare: this program is linked with no library, or with one that has none of them"
+        );
         return ExitCode::from(2);
     }
     let mut asker = Asker { tally: Default::default(), random: Random::new(options.seed) };

@@ -1,8 +1,8 @@
 //! Scenes that a question answers with no, one or several at once.
 
-use crate::random::Random;
 use crate::scene::Scene;
 use oracle::questions::{steps, LARGEST, MOST_FLOATS, POSITIONS};
+use oracle::random::Random;
 use oracle::records::{ELEMENT, FIT};
 
 /// Makes up to three of the seven questions answer no, wherever that can be done.

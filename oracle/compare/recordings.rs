@@ -1,9 +1,9 @@
 //! Recordings by chance, and the rates they come at.
 
-use crate::random::Random;
 use crate::scene::Recording;
-use crate::signals::{real, senders, Sender};
 use oracle::by_stand_ins::way_in::edge_window;
+use oracle::random::Random;
+use oracle::signals::{real, senders, Sender};
 
 /// The rate at which step becomes k + 1.
 pub fn change_of_step(k: usize) -> f64 {
@@ -115,11 +115,19 @@ fn extreme(fs: f64, r: &mut Random) -> Recording {
         2 => {
             // A keyed sender of the largest size.
             let on = k / 400 % 2 == 0;
-            if on { f32::MAX * (1.0 - r.unit() as f32 / 1e6) } else { f32::MIN_POSITIVE * r.unit() as f32 }
+            if on {
+                f32::MAX * (1.0 - r.unit() as f32 / 1e6)
+            } else {
+                f32::MIN_POSITIVE * r.unit() as f32
+            }
         }
         _ => {
             let x = f32::from_bits(r.bits() as u32);
-            if x.is_finite() { x } else { 0.0 }
+            if x.is_finite() {
+                x
+            } else {
+                0.0
+            }
         }
     };
     let iq: Vec<f32> = (0..2 * n).map(|i| part(i / 2, r)).collect();

@@ -1,8 +1,8 @@
 //! A scene: a recording with all that the calls are handed beside it.
 
-use crate::random::Random;
 use oracle::calls::Given;
 use oracle::questions::steps;
+use oracle::random::Random;
 use oracle::records::{ELEMENT, FIT};
 
 /// A recording, and the hint that goes with it.

@@ -144,13 +144,7 @@ pub fn estimate_strong(
 
 /// What residual check and evidence ask.
 fn admitted_to_measure(iq: &[f32], fs: f64, given: &Given, work_len: usize) -> Result<(), u64> {
-    admitted(&[
-        ask::rate(fs),
-        ask::size(iq),
-        ask::finite(iq),
-        ask::work(work_len, iq, fs),
-        given.question(),
-    ])
+    admitted(&[ask::rate(fs), ask::size(iq), ask::finite(iq), ask::work(work_len, iq, fs), given.question()])
 }
 
 pub fn residual_check(iq: &[f32], fs: f64, given: &Given, work_len: usize) -> Outcome {

@@ -4,8 +4,10 @@
 pub mod calls;
 pub mod keydowns;
 pub mod questions;
+pub mod random;
 pub mod records;
 pub mod run;
+pub mod signals;
 pub mod stand_ins;
 
 include!(concat!(env!("OUT_DIR"), "/modules.rs"));

@@ -39,12 +39,7 @@ pub struct Fit {
 
 impl Fit {
     pub fn read(flat: &[f64]) -> Fit {
-        Fit {
-            element: Element::read(flat),
-            gain: Complex64::new(flat[4], flat[5]),
-            slope: flat[6],
-            reference: flat[7],
-        }
+        Fit { element: Element::read(flat), gain: Complex64::new(flat[4], flat[5]), slope: flat[6], reference: flat[7] }
     }
 
     pub fn flat(&self) -> [f64; FIT] {

@@ -2,8 +2,8 @@
 
 use crate::by_stand_ins::way_in::{class_counts, edge_window};
 use crate::by_stand_ins::{
-    classify, estimate_strong, fit_elements, residual_check, second_carrier_evidence, subtract, ElementFit,
-    Hypothesis, KeyedElement, ResidualCheck, SecondCarrierEvidence, MAX_CARRIER_STEP_HZ, MIN_ELEMENTS,
+    classify, estimate_strong, fit_elements, residual_check, second_carrier_evidence, subtract, ElementFit, Hypothesis,
+    KeyedElement, ResidualCheck, SecondCarrierEvidence, MAX_CARRIER_STEP_HZ, MIN_ELEMENTS,
 };
 use crate::keydowns::{key_downs_beside, Found};
 use crate::records::{Element, Estimate, Fit};

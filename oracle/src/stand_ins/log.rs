@@ -68,7 +68,10 @@ mod tests {
             assert!((log10(y) - y.log10()).abs() <= 1e-13, "{y:e}");
         }
         assert_eq!(log10(1.0), 0.0);
-        assert_eq!((log10(0.0), log10(-0.0), log10(f64::INFINITY)), (f64::NEG_INFINITY, f64::NEG_INFINITY, f64::INFINITY));
+        assert_eq!(
+            (log10(0.0), log10(-0.0), log10(f64::INFINITY)),
+            (f64::NEG_INFINITY, f64::NEG_INFINITY, f64::INFINITY)
+        );
         assert!(log10(-1.0).is_nan() && log10(f64::NAN).is_nan());
     }
 }

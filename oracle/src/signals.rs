@@ -1,7 +1,7 @@
 //! Made-up recordings: keyed senders with ramps and noise, and rows that are hard on a threshold or a selection.
 
 use crate::random::Random;
-use oracle::stand_ins::{cos, sin};
+use crate::stand_ins::{cos, sin};
 use std::f64::consts::{PI, TAU};
 
 /// A keyed sender: where it stands, how strong, and how long its key unit is.
