@@ -1,14 +1,14 @@
 -- Whole numbers as floats, up to 2 ^ prec, where a format has no gap. `whole-value` (the float has that value), `whole-back` (`as usize` gives it back), `whole-injective`, `whole-lt` and `whole-le` (the tests are the numbers' own),
 -- `whole-add`, `whole-sub`, `whole-mul` (single operations on them are rounded once: exact as long as the result is such a number too).
 -- `of n` of `specs/Ops.antt` is `ofInt binary64 (pos n)`. Over any format but for the casts. Assumes nothing.
-use mathlib.Core.Path.{_≡_, refl, sym, ap, _∙_, subst}
-use Prim.Native.Nat.{ℕ, _+_, _-_, _*_, _/_, _^_, _≤_, _<_}
-use native.Mathlib.Nat.{le-trans, le-of-eq, lt-of-lt-of-le, lt-of-le-of-lt, mul-one}
+use mathlib.Core.Path.{_≡_, refl, _∙_, subst}
+use Prim.Native.Nat.{ℕ, _+_, _-_, _*_, _^_, _≤_, _<_}
+use native.Mathlib.Nat.{le-trans, le-of-eq}
 use native.Mathlib.Omega.{arith}
-use mathlib.Core.Bool.{Bool, true, false}
+use mathlib.Core.Bool.{false}
 use lib.IntN.{pos}
 use lib.Dec.{T, ltb, leb, ltb→lt, lt→ltb, leb→le, le→leb, lit<}
-use lib.Ieee.{Float, fin, Format, binary64, prec, round, add, sub, mul, lt, le, ofInt, inFloat, toUnsigned}
+use lib.Ieee.{Float, Format, prec, round, add, sub, mul, lt, le, ofInt, inFloat, toUnsigned}
 use lib.Ieee.Exact.{HasValue}
 use lib.Ieee.Order.{le-of-values}
 use lib.Ieee.Back.{round-whole, unsigned-back}

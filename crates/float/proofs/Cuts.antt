@@ -2,20 +2,19 @@
 -- Assumes nothing.
 use mathlib.Core.Path.{_≡_, refl, sym, ap, _∙_, subst}
 use mathlib.Core.Logic.{_⊎_, inl, inr}
-use Prim.Native.Nat.{ℕ, zero, suc, _+_, _-_, _*_, _/_, _%_, _^_, _≤_, _<_, compare, Ordering, Ordering·lt, Ordering·eq, Ordering·gt}
-use native.Mathlib.Nat.{div-add-mod', mod-lt, suc-mul, eq-zero-or-pos, le-trans, le-of-eq, le-of-lt, lt-of-lt-of-le, lt-of-le-of-lt, lt-of-not-le, not-le-of-lt, mul-pos, mul-one, one-mul, mul-comm, mul-assoc, mul-right-comm, mul-sub, mul-le-mul-right, mul-lt-mul-of-pos-right, eq-of-mul-eq-mul-right, add-mul-div-right, add-mul-mod-self-right, div-lt-iff-lt-mul, le-div-iff-mul-le, div-mul-le-self}
+use Prim.Native.Nat.{ℕ, suc, _+_, _-_, _*_, _/_, _%_, _^_, _≤_, _<_, compare, Ordering, Ordering·lt, Ordering·eq, Ordering·gt}
+use native.Mathlib.Nat.{div-add-mod', mod-lt, suc-mul, eq-zero-or-pos, le-trans, le-of-eq, le-of-lt, lt-of-lt-of-le, lt-of-le-of-lt, mul-pos, mul-one, mul-comm, mul-assoc, mul-right-comm, mul-sub, mul-le-mul-right, mul-lt-mul-of-pos-right, eq-of-mul-eq-mul-right, add-mul-div-right, add-mul-mod-self-right, div-lt-iff-lt-mul, le-div-iff-mul-le}
 use native.Mathlib.Omega.{arith}
-use mathlib.Core.Bool.{Bool, true, false, not, cond, true≢false}
+use mathlib.Core.Bool.{Bool, true, false, true≢false}
 use lib.IntN.{ℤ, pos}
-use lib.Dec.{T, ltb, ltb→lt, lit<, lit≤}
-use lib.Pow.{pow-pos, pow-mono, shl-lt}
-use lib.Ieee.{Float, nan, inf, fin, Format, binary64, prec, emax, low, up, down, size, nearest, units, round, sum, add, sub, lt, ofInt, toUnsigned, inUnsigned}
-use lib.Ieee.Digits.{size-lt, size-le}
+use lib.Dec.{lit<, lit≤}
+use lib.Pow.{pow-pos, shl-lt}
+use lib.Ieee.{Float, nan, inf, fin, binary64, up, down, size, nearest, units, round, sum, add, sub, ofInt}
+use lib.Ieee.Digits.{size-le}
 use lib.Ieee.Fits.{core, round-is, down-pos, nearest-le}
 use lib.Ieee.Exact.{HasValue, units-val}
 use lib.Ieee.Nearest.{closest, closest-same, nearest-ge}
 use lib.Ieee.Scale.{round-same}
-use lib.Ieee.Back.{round-whole, unsigned-back}
 use Rattle.float.proofs.Sums.{sub-over, sum-less, sum-more}
 use Rattle.float.proofs.Counts.{whole-is, whole-value}
 use Rattle.float.proofs.Digits.{size-gt, Cmp, cmp}

@@ -1,6 +1,6 @@
 -- The definition at work: antt computes it. Assumes nothing.
 use mathlib.Core.Path.{_≡_, refl}
-use lib.Ieee.{Format, binary32, binary64, ofBits}
+use lib.Ieee.{binary32, binary64, ofBits}
 use Rattle.float.specs.Sqrt.{sqrtOf}
 
 -- 2

@@ -2,13 +2,13 @@
 -- `ends-ordered` says for any lo and any hi but a NaN (every test fails on a NaN) that `lo as usize` is at most `hi as usize`, and that at most n. `upto-back`, `upto-is`: what such a whole number is. Assumes nothing.
 use mathlib.Core.Path.{_≡_, refl, sym, ap, _∙_, subst}
 use mathlib.Core.Logic.{_⊎_, inl, inr}
-use Prim.Native.Nat.{ℕ, suc, _+_, _-_, _*_, _/_, _^_, _≤_, _<_, zero-le}
-use native.Mathlib.Nat.{le-trans, le-of-eq, le-of-lt, le-refl, lt-of-lt-of-le, lt-of-le-of-lt, lt-of-not-le, lt-irrefl, not-le-of-lt, le-of-suc-le-suc, add-zero, mul-one, zero-mul, mul-pos, div-one}
+use Prim.Native.Nat.{ℕ, suc, _+_, _-_, _*_, _^_, _≤_, _<_, zero-le}
+use native.Mathlib.Nat.{le-trans, le-of-eq, le-of-lt, lt-of-not-le, lt-irrefl, not-le-of-lt, le-of-suc-le-suc, mul-one, zero-mul, mul-pos, div-one}
 use native.Mathlib.Omega.{arith}
 use mathlib.Core.Bool.{Bool, true, false, not, _&&_, Bool·beq, cond, true≢false}
-use lib.IntN.{ℤ, pos}
-use lib.Dec.{T, ltb, leb, ltb→lt, leb→le, le→leb, nltb→le, T-not, lit<, lit≤}
-use lib.Ieee.{Float, nan, inf, fin, binary64, up, down, round, sum, neg, add, sub, lt, le, ofInt, ofBits, toUnsigned, fits, isNan}
+use lib.IntN.{pos}
+use lib.Dec.{T, ltb, leb, ltb→lt, leb→le, lit<}
+use lib.Ieee.{Float, nan, inf, fin, binary64, up, down, round, sum, neg, sub, lt, le, ofInt, ofBits, toUnsigned, fits, isNan}
 use lib.Ieee.Fits.{round-fits, ofInt-fits, up-pos}
 use lib.Ieee.Exact.{HasValue}
 use lib.Ieee.Scale.{finite}
@@ -18,11 +18,11 @@ use lib.Ieee.Positive.{positive, positive-of-value, above, above-of-le}
 use Rattle.float.specs.Ops.{zero, of, minus-zero, _⊖_}
 use Rattle.float.specs.Whole.{floorOf, ceilOf, roundOf}
 use Rattle.float.proofs.Exactly.{unique, neg-round}
-use Rattle.float.proofs.Compared.{nought, yes, no, unsigned-value}
+use Rattle.float.proofs.Compared.{nought, no, unsigned-value}
 use Rattle.float.proofs.Ordered.{unsigned-mono, sub-above}
 use Rattle.float.proofs.Sums.{over-zero, sub-over, sum-plus, sum-less}
-use Rattle.float.proofs.Counts.{whole-is, whole-value, whole-back, whole-lt, whole-le}
-use Rattle.float.proofs.Signs.{Signed, round-signed, value-signed, signed-number}
+use Rattle.float.proofs.Counts.{whole-is, whole-value, whole-back, whole-le}
+use Rattle.float.proofs.Signs.{round-signed, signed-number}
 use Rattle.float.proofs.Monotone.{neg-le, lt-le, not-lt-le, le-through, wholly, floor-pick, ceil-pick, round-pick, floor-is, ceil-is, round-is}
 
 -- ---- a rounded whole number between 0 and n is that number
@@ -225,12 +225,6 @@ pub record Interval (lo hi : Float) (n m : ℕ) : Type 0 where
   pub last : Upto hi n
   pub long : toUnsigned 64 lo + m ≤ toUnsigned 64 hi
   pub inside : toUnsigned 64 hi ≤ n
-
-finite-number : (x : Float) → T (finite x) → T (not (isNan x))
-unfolding isNan
-finite-number nan h = h
-finite-number (inf s) h = tt
-finite-number (fin s m e) h = tt
 
 wholly-number : (pick : Bool → ℕ → ℕ → ℕ) (x : Float) → T (finite x) → T (not (isNan (wholly pick x)))
 unfolding wholly

@@ -2,6 +2,7 @@
 pub mod Digits
 pub mod Exactly
 pub mod Compared
+pub mod Picks
 pub mod Wholes
 pub mod Sums
 pub mod Cuts

@@ -1,13 +1,13 @@
 -- What `sqrtOf` comes to, in either format, at a value above zero: it is a value of the format, and no other is as near to the root. Assumes nothing.
 use mathlib.Core.Path.{_≡_, refl, sym, ap, _∙_, subst}
 use mathlib.Core.Logic.{_⊎_, inl, inr}
-use mathlib.Core.Bool.{Bool, true, false, not, cond, _&&_}
+use mathlib.Core.Bool.{false, _&&_}
 use Prim.Native.Nat.{ℕ, zero, suc, _+_, _-_, _*_, _/_, _%_, _^_, _≤_, _<_}
 use native.Mathlib.Nat.{le-refl, le-antisymm, le-trans, le-of-lt, le-of-eq, le-of-suc-le-suc, lt-of-not-le, lt-irrefl, lt-of-lt-of-le, lt-of-le-of-lt, eq-or-lt-of-le, zero-mul, one-mul, mul-one, mul-comm, mul-assoc, mul-mul-mul-comm, mul-le-mul, mul-le-mul-right, mul-lt-mul-of-pos-right, lt-of-mul-lt-mul-right, eq-of-mul-eq-mul-right, mul-pos, zero-lt-suc, add-mul, pow-suc}
 use native.Mathlib.Decide.{decLe}
 use native.Mathlib.Omega.{arith}
-use lib.IntN.{ℤ, pos, negsuc}
-use lib.Dec.{T, leb, ltb, eqb, lit≤, lit<, ltb→lt, leb→le}
+use lib.IntN.{pos, negsuc}
+use lib.Dec.{T, leb, ltb, eqb, lit≤, ltb→lt, leb→le}
 use lib.Pow.{pow-pos, pow-mono, pow-lt, pow-add, shl-lt}
 use lib.Ieee.{Float, nan, inf, fin, Format, binary32, binary64, prec, emax, low, up, down, size, units, odd, fits}
 use lib.Ieee.Digits.{size-lt, size-le, size-reaches}

@@ -1,25 +1,22 @@
 -- Order. `le-fin`, `fin-le`: what `<=` of two finite values says of their signs and sizes. `neg-le`: a minus turns it round. `lt-le`, `not-lt-le`: between the tests. `le-through`: by way of a third. `minus-le-plus`, `signed-le`: by sign.
 -- `floor-mono`, `ceil-mono`, `round-mono`: x at most y has floor, ceil and round of x at most those of y; `floor-keeps`, `ceil-keeps`, `round-keeps`: a whole number stays. With infinities and minus signs among the values. Assumes nothing.
 use mathlib.Core.Path.{_≡_, refl, sym, ap, _∙_, subst}
-use mathlib.Core.Logic.{_⊎_, inl, inr}
-use Prim.Native.Nat.{ℕ, zero, suc, _+_, _-_, _*_, _/_, _%_, _^_, _≤_, _<_, zero-le}
-use native.Mathlib.Nat.{suc-mul, le-trans, le-of-eq, le-of-lt, le-refl, lt-of-lt-of-le, lt-of-le-of-lt, lt-irrefl, lt-of-not-le, not-le-of-lt, le-of-suc-le-suc, eq-zero-or-pos, eq-or-lt-of-le, zero-mul, mul-one, one-mul, mul-pos, mul-comm, mul-assoc, mul-right-comm, mul-le-mul-left, mul-le-mul-right, lt-of-mul-lt-mul-right, mul-lt-mul-of-pos-right, le-div-iff-mul-le, div-lt-iff-lt-mul, div-mul-le-self, mul-div-cancel, div-eq-of-lt-le, div-eq-of-lt, add-mul, eq-of-mul-eq-mul-right}
-use native.Mathlib.Numerals.{add-one}
+use mathlib.Core.Logic.{inl, inr}
+use Prim.Native.Nat.{ℕ, _+_, _*_, _≤_, _<_}
+use native.Mathlib.Nat.{le-of-eq, le-of-lt, eq-zero-or-pos, eq-or-lt-of-le, zero-mul, mul-one, mul-le-mul-right, eq-of-mul-eq-mul-right}
 use native.Mathlib.Omega.{arith}
-use mathlib.Core.Bool.{Bool, true, false, not, _&&_, _||_, Bool·beq, cond, true≢false}
+use mathlib.Core.Bool.{Bool, true, false, not, _&&_, _||_, true≢false}
 use lib.IntN.{ℤ, pos}
-use lib.Dec.{T, ltb, eqb, ltb→lt, lt→ltb, nltb→le, eqb→eq, not-T, T-not, lit<}
-use lib.Arith.{le→nltb}
-use lib.Pow.{pow-pos}
-use lib.Ieee.{Float, nan, inf, fin, Format, binary64, prec, emax, low, up, down, below, level, odd, units, round, neg, lt, eq, le, isNan}
-use lib.Ieee.Fits.{round-is as round-core, up-pos, down-pos, and-i, and-l, and-r, eq→eqb}
-use lib.Ieee.Exact.{HasValue, units-val, odd-sign}
-use lib.Ieee.Nearest.{div-mono}
+use lib.Dec.{T, ltb, eqb, ltb→lt, lt→ltb, nltb→le, eqb→eq, lit<}
+use lib.Ieee.{Float, nan, inf, fin, binary64, up, down, below, level, round, neg, lt, eq, le, isNan}
+use lib.Ieee.Fits.{down-pos, and-i, and-l, and-r, eq→eqb}
+use lib.Ieee.Exact.{HasValue}
 use lib.Ieee.Order.{round-mono as rounds-up}
 use lib.Ieee.Positive.{through}
-use Rattle.float.specs.Whole.{cut, lifted, halfUp, wholeBy, floorOf, ceilOf, roundOf}
+use Rattle.float.specs.Whole.{cut, lifted, halfUp, floorOf, ceilOf, roundOf}
 use Rattle.float.proofs.Exactly.{neg-round}
-use Rattle.float.proofs.Compared.{nought, no, or-split, lt-or-eq}
+use Rattle.float.proofs.Compared.{nought, or-split, lt-or-eq}
+use Rattle.float.proofs.Picks.{Steps, cut-steps, lifted-steps, half-steps}
 use Rattle.float.proofs.Signs.{Signed, round-signed}
 
 -- ---- ± a at most ± b
@@ -255,50 +252,6 @@ unfoldable pub wholly : (Bool → ℕ → ℕ → ℕ) → Float → Float
 wholly pick nan = nan
 wholly pick (inf s) = inf s
 wholly pick (fin s m e) = round binary64 s (pick s (m * up e) (down e)) 1
-
--- a larger fraction gives no smaller number, and a whole number stays
-pub record Steps (pick : ℕ → ℕ → ℕ) : Type 0 where
-  pub mono : (a c b d : ℕ) → 0 < c → 0 < d → a * d ≤ b * c → pick a c ≤ pick b d
-  pub keeps : (n c : ℕ) → 0 < c → pick (n * c) c ≡ n
-
-cut-steps : Steps cut
-cut-steps = record { mono = λ a c b d C D h. div-mono a c b d C D h; keeps = λ n c C. mul-div-cancel n C }
-
-lifted-mono : (a c b d : ℕ) → 0 < c → 0 < d → a * d ≤ b * c → lifted a c ≤ lifted b d
-lifted-mono a c b d C D h =
-    elim (eq-zero-or-pos (lifted a c)) [
-      | inl z ↦ over-none (lifted a c) (lifted b d) z
-      | inr p ↦ up-to (lifted a c) p refl
-    ]
-  where
-    below-a : (q : ℕ) → suc q ≡ lifted a c → q * c < a
-    below-a q e =
-        let l : suc q * c ≤ a + (c - 1) = le-trans (le-of-eq (ap (λ (z : ℕ). z * c) e)) (div-mul-le-self (a + (c - 1)) c) in
-        let s : suc q * c ≡ q * c + c = suc-mul q c in
-        omega arith
-
-    next : (q : ℕ) → q * d < b → suc q ≤ lifted b d
-    next q l = let s : suc q * d ≡ q * d + d = suc-mul q d in le-div-iff-mul-le D .1 (omega arith)
-
-    up-to : (q : ℕ) → 0 < q → q ≡ lifted a c → q ≤ lifted b d
-    up-to zero p e = absurd (lt-irrefl 0 p)
-    up-to (suc q) p e =
-        next q (lt-of-mul-lt-mul-right c (lt-of-le-of-lt (le-of-eq (mul-right-comm q d c)) (lt-of-lt-of-le (mul-lt-mul-of-pos-right (below-a q e) D) h)))
-
-lifted-steps : Steps lifted
-lifted-steps = record { mono = lifted-mono; keeps = stays }
-  where
-    stays : (n c : ℕ) → 0 < c → lifted (n * c) c ≡ n
-    stays n c C = let s : suc n * c ≡ n * c + c = suc-mul n c in let t : (n + 1) * c ≡ suc n * c = ap (λ (z : ℕ). z * c) (add-one n) in div-eq-of-lt-le c (omega arith) (omega arith)
-
-half-steps : Steps halfUp
-half-steps = record { mono = mono; keeps = stays }
-  where
-    mono : (a c b d : ℕ) → 0 < c → 0 < d → a * d ≤ b * c → halfUp a c ≤ halfUp b d
-    mono a c b d C D h = div-mono (2 * a + c) (2 * c) (2 * b + d) (2 * d) (mul-pos (lit< tt) C) (mul-pos (lit< tt) D) (omega arith)
-
-    stays : (n c : ℕ) → 0 < c → halfUp (n * c) c ≡ n
-    stays n c C = div-eq-of-lt-le (2 * c) (omega arith) (omega arith)
 
 module _ (pick : Bool → ℕ → ℕ → ℕ) (steps : (s : Bool) → Steps (pick s)) where
   zero-picked : (s : Bool) (m u c d : ℕ) → 0 < c → 0 < d → m * u * d ≡ 0 → pick s (m * u) c ≡ 0

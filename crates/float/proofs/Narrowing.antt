@@ -3,19 +3,19 @@
 use mathlib.Core.Path.{_≡_, refl, sym, ap, _∙_, subst}
 use mathlib.Core.Logic.{_⊎_, inl, inr}
 use Prim.Native.Nat.{ℕ, zero, suc, _+_, _-_, _*_, _/_, _%_, _^_, _≤_, _<_, compare, Ordering, Ordering·lt, Ordering·eq, Ordering·gt}
-use native.Mathlib.Nat.{le-trans, le-of-eq, le-refl, lt-of-lt-of-le, lt-of-le-of-lt, lt-of-not-le, not-le-of-lt, eq-or-lt-of-le, mul-pos, mul-one, mul-assoc, mul-comm, mul-le-mul, mul-le-mul-right, mul-lt-mul-of-pos-right, add-comm, add-mul-div-right, div-eq-of-lt, mod-eq-of-lt, div-lt-iff-lt-mul, le-div-iff-mul-le, pow-succ', pow-suc}
+use native.Mathlib.Nat.{le-trans, le-of-eq, le-refl, lt-of-lt-of-le, lt-of-le-of-lt, eq-or-lt-of-le, mul-pos, mul-assoc, mul-le-mul, mul-le-mul-right, mul-lt-mul-of-pos-right, add-comm, add-mul-div-right, div-eq-of-lt, mod-eq-of-lt, div-lt-iff-lt-mul, le-div-iff-mul-le, pow-succ'}
 use native.Mathlib.Numerals.{add-one}
 use native.Mathlib.Omega.{arith}
 use mathlib.Core.Bool.{Bool, true, false, not, cond}
-use lib.Dec.{T, ltb, eqb, ltb→lt, lt→ltb, nltb→le, eqb→eq, not-T, lit<, lit≤}
+use lib.Dec.{T, ltb, eqb, ltb→lt, nltb→le, eqb→eq, not-T, lit<, lit≤}
 use lib.Arith.{le→nltb}
 use lib.Pow.{pow-add, pow-pos, pow-mono, pow-lt, shl-lt, shr-lt}
 use lib.Ieee.{Float, nan, inf, fin, Format, binary32, binary64, prec, emax, low, hid, ones, up, down, size, nearest, odd, units, round, ofFields, ofBits, toBits, nanBits, isNan, ne, fits}
-use lib.Ieee.Digits.{size-lt, size-le, size-reaches}
+use lib.Ieee.Digits.{size-le}
 use lib.Ieee.Fits.{core, round-is, odd-fits, down-pos, nearest-le}
 use lib.Ieee.Bits.{ofBits-fits, cond-no, ofBits-toBits, nanBits-is, nanBits-above}
 use lib.Ieee.Exact.{HasValue, odd-sign, units-val}
-use lib.Ieee.Nearest.{closest, closest-same, nearest-ge}
+use lib.Ieee.Nearest.{closest, closest-same}
 use lib.Ieee.Scale.{round-same}
 use Rattle.float.specs.Narrow.{narrowOf, Narrowed}
 use Rattle.float.proofs.Exactly.{unique}

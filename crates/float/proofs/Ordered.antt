@@ -1,22 +1,21 @@
 -- From tests on floats to bounds on integers: `toUnsigned` keeps the order (`unsigned-mono`), and a difference above zero has its operands in order (`sub-above`). A quotient grows with its numerator and shrinks as its denominator grows (`div-mono`).
 -- Over any format, with infinities and negative values among the operands. Assumes nothing.
 use mathlib.Core.Path.{_≡_, refl, sym, ap, _∙_, subst}
-use mathlib.Core.Logic.{_⊎_, inl, inr}
-use Prim.Native.Nat.{ℕ, zero, suc, _+_, _-_, _*_, _/_, _%_, _^_, _≤_, _<_, zero-le, min}
-use native.Mathlib.Nat.{le-trans, le-of-eq, le-of-lt, le-refl, lt-of-lt-of-le, lt-irrefl, lt-of-not-le, not-le-of-lt, eq-zero-or-pos, eq-or-lt-of-le, zero-mul, mul-pos, mul-one, mul-comm, mul-assoc, mul-left-comm, mul-right-comm, mul-le-mul, mul-mul-mul-comm, div-eq-of-lt}
+use mathlib.Core.Logic.{inl, inr}
+use Prim.Native.Nat.{ℕ, zero, suc, _+_, _-_, _*_, _/_, _^_, _≤_, _<_, zero-le, min}
+use native.Mathlib.Nat.{le-trans, le-of-eq, le-refl, lt-irrefl, not-le-of-lt, eq-zero-or-pos, zero-mul, mul-pos, mul-comm, mul-assoc, mul-left-comm, mul-le-mul, div-eq-of-lt}
 use native.Mathlib.Omega.{arith}
-use mathlib.Core.Bool.{Bool, true, false, not, _&&_, _||_, cond, true≢false}
-use lib.IntN.{ℤ, pos, negsuc}
-use lib.Dec.{T, ltb, eqb, ltb→lt, lt→ltb, nltb→le, eqb→eq, eqb·suc-zero, lit<}
-use lib.Arith.{lt→nleb, le→nltb}
+use mathlib.Core.Bool.{Bool, true, false, not, _||_, cond}
+use lib.IntN.{ℤ}
+use lib.Dec.{T, ltb, eqb, ltb→lt, lt→ltb, nltb→le, eqb→eq, lit<}
 use lib.Pow.{pow-pos}
-use lib.Ieee.{Float, nan, inf, fin, Format, prec, emax, low, up, down, odd, units, round, sum, add, neg, sub, div, lt, le, toUnsigned}
-use lib.Ieee.Fits.{round-is, up-pos, down-pos, and-l, and-r}
-use lib.Ieee.Bits.{cond-no}
+use lib.Ieee.{Float, nan, inf, fin, Format, prec, emax, low, up, down, odd, units, round, sum, sub, div, lt, le, toUnsigned}
+use lib.Ieee.Fits.{round-is, up-pos, down-pos, and-r}
 use lib.Ieee.Exact.{HasValue, round-exact}
 use lib.Ieee.Order.{round-mono}
 use lib.Ieee.Nearest.{div-mono}
-use lib.Ieee.Positive.{num, den, positive, den-pos, le→cross}
+use lib.Ieee.Positive.{num, den, positive, den-pos, own-value, le→cross}
+use Rattle.float.proofs.Sums.{div-over}
 use Rattle.float.proofs.Compared.{nought, lt→cross, lt-or-eq}
 
 -- ---- `toUnsigned` keeps the order
@@ -97,30 +96,30 @@ round-above f a c C h =
     nothing f c C = round-exact f false 0 c 0 0 C (pow-pos (prec f)) (pow-pos (low f + suc (emax f))) (zero-mul (2 ^ low f) ∙ sym (zero-mul c))
 
 -- ---- a difference above zero
-sum-like : (f : Format) (a b c : ℕ) → 0 < c → T (lt nought (sum f false a false b c)) → 0 < a + b
+plus-above : (f : Format) (a b c : ℕ) → 0 < c → T (lt nought (sum f false a false b c)) → 0 < a + b
 unfolding sum
-sum-like f a b c C h = round-above f (a + b) c C h
+plus-above f a b c C h = round-above f (a + b) c C h
 
-sum-minus : (f : Format) (a b c : ℕ) → T (lt nought (sum f true a true b c)) → ⊥
+minus-above : (f : Format) (a b c : ℕ) → T (lt nought (sum f true a true b c)) → ⊥
 unfolding sum
-sum-minus f a b c h = round-minus f (a + b) c h
+minus-above f a b c h = round-minus f (a + b) c h
 
 left : (a b : ℕ) → 0 < a - b → b < a
 left a b h = omega arith
 
 -- a - b
-sum-less : (f : Format) (a b c : ℕ) → 0 < c → T (lt nought (sum f false a true b c)) → b < a
+less-above : (f : Format) (a b c : ℕ) → 0 < c → T (lt nought (sum f false a true b c)) → b < a
 unfolding sum
-sum-less f a b c C = go (ltb a b)
+less-above f a b c C = go (ltb a b)
   where
     go : (t : Bool) → T (lt nought (cond t (round f true (b - a) c) (round f false (a - b) c))) → b < a
     go true h = absurd (round-minus f (b - a) c h)
     go false h = left a b (round-above f (a - b) c C h)
 
 -- b - a
-sum-more : (f : Format) (a b c : ℕ) → 0 < c → T (lt nought (sum f true a false b c)) → a < b
+more-above : (f : Format) (a b c : ℕ) → 0 < c → T (lt nought (sum f true a false b c)) → a < b
 unfolding sum
-sum-more f a b c C = go (ltb a b) (ltb→lt a b) (nltb→le a b) (ltb b a) (nltb→le b a)
+more-above f a b c C = go (ltb a b) (ltb→lt a b) (nltb→le a b) (ltb b a) (nltb→le b a)
   where
     go : (t : Bool) → (T t → a < b) → (T (not t) → b ≤ a) → (u : Bool) → (T (not u) → a ≤ b) → T (lt nought (cond t (round f false (b - a) c) (round f u (a - b) c))) → a < b
     go true k l u m h = k tt
@@ -132,10 +131,10 @@ swap a b h = omega arith
 
 fin-above : (f : Format) (s : Bool) (m : ℕ) (e : ℤ) (t : Bool) (n : ℕ) (d : ℤ) (c : ℕ) → 0 < c → T (lt nought (sum f s (m * up e * down d) (not t) (n * up d * down e) c)) → T (lt (fin t n d) (fin s m e))
 unfolding lt
-fin-above f false m e true n d c C h = lt→ltb 0 (n * up d * down e + m * up e * down d) (swap (m * up e * down d) (n * up d * down e) (sum-like f (m * up e * down d) (n * up d * down e) c C h))
-fin-above f false m e false n d c C h = lt→ltb (n * up d * down e) (m * up e * down d) (sum-less f (m * up e * down d) (n * up d * down e) c C h)
-fin-above f true m e true n d c C h = lt→ltb (m * up e * down d) (n * up d * down e) (sum-more f (m * up e * down d) (n * up d * down e) c C h)
-fin-above f true m e false n d c C h = absurd (sum-minus f (m * up e * down d) (n * up d * down e) c h)
+fin-above f false m e true n d c C h = lt→ltb 0 (n * up d * down e + m * up e * down d) (swap (m * up e * down d) (n * up d * down e) (plus-above f (m * up e * down d) (n * up d * down e) c C h))
+fin-above f false m e false n d c C h = lt→ltb (n * up d * down e) (m * up e * down d) (less-above f (m * up e * down d) (n * up d * down e) c C h)
+fin-above f true m e true n d c C h = lt→ltb (m * up e * down d) (n * up d * down e) (more-above f (m * up e * down d) (n * up d * down e) c C h)
+fin-above f true m e false n d c C h = absurd (minus-above f (m * up e * down d) (n * up d * down e) c h)
 
 pub sub-above : (f : Format) (hi lo : Float) → T (lt nought (sub f hi lo)) → T (lt lo hi)
 unfolding sub lt
@@ -153,26 +152,14 @@ sub-above f (fin s m e) (inf false) h = absurd h
 sub-above f (fin s m e) (fin t n d) h = fin-above f s m e t n d (down e * down d) (mul-pos (down-pos e) (down-pos d)) h
 
 -- ---- the quotient
-div-open : (f : Format) (m : ℕ) (e : ℤ) (n : ℕ) (d : ℤ) → div f (fin false m e) (fin false (suc n) d) ≡ round f false (m * up e * down d) (suc n * up d * down e)
-unfolding div
-div-open f m e n d =
-    cond-no (eqb (suc n) 0) (cond (eqb m 0) nan (inf false)) (round f false (m * up e * down d) (suc n * up d * down e)) (subst (λ (b : Bool). T (not b)) (sym (eqb·suc-zero n)) tt)
-
-pub div-is : (f : Format) (x y : Float) → T (positive x) → T (positive y) → div f x y ≡ round f false (num x * den y) (num y * den x)
-div-is f nan y p q = absurd p
-div-is f (inf s) y p q = absurd p
-div-is f (fin true m e) y p q = absurd p
-div-is f (fin false m e) nan p q = absurd q
-div-is f (fin false m e) (inf t) p q = absurd q
-div-is f (fin false m e) (fin true n d) p q = absurd q
-div-is f (fin false m e) (fin false zero d) p q = absurd q
-div-is f (fin false m e) (fin false (suc n) d) p q = div-open f m e n d
-
 num-pos : (x : Float) → T (positive x) → 0 < num x
 num-pos nan p = absurd p
 num-pos (inf s) p = absurd p
 num-pos (fin true m e) p = absurd p
 num-pos (fin false m e) p = mul-pos (ltb→lt 0 m p) (up-pos e)
+
+pub div-is : (f : Format) (x y : Float) → T (positive x) → T (positive y) → div f x y ≡ round f false (num x * den y) (num y * den x)
+div-is f x y p q = div-over f x y false false (num x) (den x) (num y) (den y) (den-pos x) (den-pos y) (num-pos y q) (own-value x p) (own-value y q)
 
 pub quotient-mono : (f : Format) (x x' y y' : Float) → T (positive x) → T (positive x') → T (positive y) → T (positive y') → T (le x x') → T (le y' y) → T (le (div f x y) (div f x' y'))
 quotient-mono f x x' y y' p p' q q' h k =

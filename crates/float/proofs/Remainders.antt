@@ -1,23 +1,21 @@
 -- |x| where x is not above zero (`abs-other`), and remainders: a % b is a itself where |a| is below |b| (`rem-small`); what `rem_one` gets from the whole number next to x (`above-is`, `below-is`). Assumes nothing.
 use mathlib.Core.Path.{_≡_, refl, sym, ap, _∙_, subst}
-use mathlib.Core.Logic.{_⊎_, inl, inr}
 use Prim.Native.Nat.{ℕ, zero, suc, _+_, _-_, _*_, _/_, _%_, _^_, _≤_, _<_, zero-le}
-use native.Mathlib.Nat.{le-trans, le-of-eq, le-of-lt, lt-of-lt-of-le, lt-of-le-of-lt, lt-irrefl, zero-lt-suc, zero-mul, mul-one, one-mul, zero-add, mul-pos, mul-comm, mul-assoc, mul-right-comm, mul-le-mul-left, mod-eq-of-lt, mod-lt, mod-le, mod-one, div-add-mod', div-lt-iff-lt-mul, eq-zero-or-pos, suc-mul}
+use native.Mathlib.Nat.{le-of-lt, lt-of-le-of-lt, lt-irrefl, zero-lt-suc, zero-mul, mul-one, one-mul, zero-add, mul-pos, mul-comm, mul-assoc, mod-eq-of-lt, mod-lt}
 use native.Mathlib.Omega.{arith}
-use mathlib.Core.Bool.{Bool, true, false, not, cond, true≢false}
-use lib.IntN.{ℤ, pos, negsuc}
-use lib.Dec.{T, ltb, eqb, ltb→lt, lt→ltb, T-not, not-T, lit<}
-use lib.Pow.{pow-add, pow-pos, pow-mono, shl-lt}
-use lib.Ieee.{Float, nan, inf, fin, Format, binary64, prec, emax, low, up, down, round, sum, add, neg, sub, rem, lt, fits, ofBits, ofInt}
-use lib.Ieee.Bits.{cond-no, is-true, is-false}
-use lib.Ieee.Fits.{up-pos, down-pos, reach}
-use lib.Ieee.Exact.{HasValue, round-exact}
+use mathlib.Core.Bool.{Bool, true, false, not, cond}
+use lib.IntN.{ℤ, pos}
+use lib.Dec.{T, ltb→lt, T-not, not-T, lit<}
+use lib.Ieee.{Float, nan, inf, fin, Format, binary64, up, down, round, sum, add, neg, sub, rem, lt, fits, ofBits}
+use lib.Ieee.Bits.{cond-no}
+use lib.Ieee.Fits.{up-pos, down-pos}
+use lib.Ieee.Exact.{HasValue}
 use lib.Ieee.Scale.{round-same}
-use Rattle.float.specs.Ops.{absOf, one}
-use Rattle.float.specs.Rem.{remEuclidOf, raised}
+use Rattle.float.specs.Ops.{absOf}
+use Rattle.float.specs.Rem.{remEuclidOf}
 use Rattle.float.proofs.Exactly.{fits-parts, zero-exp, few-exact, rest-few, round-self, neg-round}
 use Rattle.float.proofs.Compared.{nought, lt→cross, under-power}
-use Rattle.float.proofs.Sums.{cond-nil, neg-value, add-over, sub-over, sum-less, sum-more, under-zero, not-under, over-zero, not-over-minus, none-under}
+use Rattle.float.proofs.Sums.{cond-nil, add-over, sub-over, sum-less, sum-more, under-zero, not-under, over-zero, not-over-minus, none-under}
 use Rattle.float.proofs.Cuts.{limit, gap, Bounce, over, under, bounce-is}
 
 -- ---- |x|

@@ -1,20 +1,19 @@
 -- `isqrt` is the root, and `rootOf` at a number that is written with just enough digits. Assumes nothing.
 use mathlib.Core.Path.{_≡_, refl, sym, ap, _∙_, subst}
 use mathlib.Core.Bool.{Bool, true, false, not, cond}
-use Prim.Native.Nat.{ℕ, zero, suc, _+_, _-_, _*_, _/_, _%_, _^_, _≤_, _<_, compare, Ordering, Ordering·lt, Ordering·eq, Ordering·gt}
-use native.Mathlib.Nat.{le-of-suc-le-suc, lt-of-not-le, lt-irrefl, lt-of-lt-of-le, lt-of-le-of-lt, le-trans, le-of-eq, le-antisymm, lt-suc-self, mul-le-mul, mul-le-mul-left, mul-le-mul-right, mul-add, add-mul, mul-comm, mul-assoc, mul-mul-mul-comm, div-lt-iff-lt-mul, div-mul-le-self, le-of-mul-le-mul-right, lt-of-mul-lt-mul-right, eq-of-mul-eq-mul-right, mul-pos, pow-suc}
+use Prim.Native.Nat.{ℕ, zero, suc, _+_, _-_, _*_, _/_, _^_, _≤_, _<_, compare, Ordering, Ordering·lt, Ordering·eq, Ordering·gt}
+use native.Mathlib.Nat.{le-of-suc-le-suc, lt-of-lt-of-le, lt-of-le-of-lt, le-trans, le-of-eq, lt-suc-self, mul-le-mul, mul-le-mul-right, mul-assoc, mul-mul-mul-comm, div-lt-iff-lt-mul, div-mul-le-self, le-of-mul-le-mul-right, lt-of-mul-lt-mul-right, eq-of-mul-eq-mul-right, mul-pos, pow-suc}
 use native.Mathlib.Numerals.{add-one}
 use native.Mathlib.Omega.{arith}
-use lib.Dec.{T, leb, isLe, isEq, eqb, leb→le, nleb→lt, eqb→eq, eqb-refl, lit≤}
-use lib.Arith.{lt-of-le-ne}
-use lib.Pow.{pow-pos, pow-mono, pow-add}
+use lib.Dec.{T, leb, leb→le, nleb→lt, lit≤}
+use lib.Pow.{pow-pos, pow-add}
 use lib.Ieee.{Float, Format, prec, size, nearest, units}
-use lib.Ieee.Digits.{size-lt, size-le}
+use lib.Ieee.Digits.{size-lt}
 use lib.Ieee.Fits.{two}
 use Rattle.float.specs.Sqrt.{digit, root, isqrt, rootOf}
 use Rattle.float.specs.RootSteps.{NearRoot}
 use Rattle.float.proofs.Digits.{size-exact, Cmp, cmp}
-use Rattle.float.proofs.Squares.{square-odd, square-next, square-lt-back, near-unique}
+use Rattle.float.proofs.Squares.{square-lt-back, near-unique}
 
 -- ---- the largest q with q * q at most n
 

@@ -1,12 +1,10 @@
 -- The sign of a result. `Signed s x`: x is no NaN and has the sign s (an infinity counts, and so does a zero by its sign bit). A rounded value has the sign that it was given, `round-signed`;
 -- `add-signed`, `square-signed`, `mul-signed`, `div-signed`, `sqrt-signed`, `abs-signed`, `narrow-signed`: the operations. `signed-number`: no NaN. (`signed-le` of `Monotone`: not below zero.) Over any format. Assumes nothing.
 use mathlib.Core.Path.{_≡_, refl, sym, ap, _∙_, subst}
-use Prim.Native.Nat.{ℕ, zero, suc, _+_, _-_, _*_, _/_, _^_, _≤_, _<_}
-use native.Mathlib.Nat.{lt-irrefl}
+use Prim.Native.Nat.{ℕ, zero, suc, _+_, _*_, _/_, _^_, _<_}
 use mathlib.Core.Bool.{Bool, true, false, not, Bool·beq, cond, true≢false}
-use lib.IntN.{ℤ, pos}
 use lib.Dec.{T, ltb, eqb}
-use lib.Ieee.{Float, nan, inf, fin, Format, binary32, prec, emax, low, unlike, up, down, nearest, odd, units, round, sum, neg, add, mul, div, le, isNan}
+use lib.Ieee.{Float, nan, inf, fin, Format, binary32, prec, emax, low, unlike, up, down, odd, units, round, sum, neg, add, mul, div, isNan}
 use lib.Ieee.Fits.{round-is as round-core, down-pos}
 use lib.Ieee.Exact.{HasValue, odd-sign}
 use lib.Ieee.Scale.{finite}

@@ -1,10 +1,8 @@
 -- Squares of whole numbers, and a root with what is left over. Assumes nothing.
-use mathlib.Core.Path.{_≡_, refl, sym, ap, _∙_, subst}
-use mathlib.Core.Logic.{_⊎_, inl, inr}
+use mathlib.Core.Path.{_≡_, sym, ap, _∙_}
 use Prim.Native.Nat.{ℕ, zero, suc, _+_, _-_, _*_, _/_, _%_, _^_, _≤_, _<_}
 use native.Mathlib.Nat.{le-of-suc-le-suc, lt-of-not-le, lt-irrefl, lt-of-lt-of-le, mul-le-mul, mul-le-mul-left, mul-le-mul-right, mul-add, add-mul, mul-comm, mul-assoc, mul-mul-mul-comm, div-add-mod', div-lt-iff-lt-mul, mod-lt, le-antisymm}
 use native.Mathlib.Omega.{arith}
-use lib.Pow.{pow-pos, shr-le, shr-shr}
 use Rattle.float.specs.RootSteps.{NearRoot, Rooted}
 
 pub square-add : (a b : ℕ) → (a + b) * (a + b) ≡ a * a + 2 * (a * b) + b * b

@@ -2,10 +2,9 @@
 -- Where a value stands to zero: `under-zero`, `over-zero`, `not-under`, `not-over`. Over any format. Assumes nothing.
 use mathlib.Core.Path.{_≡_, refl, sym, ap, _∙_, subst}
 use Prim.Native.Nat.{ℕ, zero, suc, _+_, _-_, _*_, _≤_, _<_}
-use native.Mathlib.Nat.{lt-irrefl, zero-lt-suc, mul-mul-mul-comm, le-of-eq, lt-of-lt-of-le, lt-of-le-of-lt, lt-of-not-le, not-le-of-lt, zero-mul, mul-one, one-mul, add-mul, mul-sub, mul-pos, mul-comm, mul-assoc, mul-right-comm, mul-lt-mul-of-pos-right, lt-of-mul-lt-mul-right, eq-of-mul-eq-mul-right}
+use native.Mathlib.Nat.{lt-irrefl, zero-lt-suc, mul-mul-mul-comm, le-of-eq, lt-of-lt-of-le, lt-of-le-of-lt, lt-of-not-le, not-le-of-lt, zero-mul, mul-one, mul-sub, mul-pos, mul-comm, mul-assoc, mul-right-comm, mul-lt-mul-of-pos-right, lt-of-mul-lt-mul-right, eq-of-mul-eq-mul-right}
 use native.Mathlib.Omega.{arith}
 use mathlib.Core.Bool.{Bool, true, false, not, _&&_, Bool·beq, cond, true≢false}
-use lib.IntN.{ℤ, pos, negsuc}
 use lib.Dec.{T, ltb, eqb, ltb→lt, lt→ltb, eqb·suc-zero}
 use lib.Arith.{le→nltb}
 use lib.Ieee.{Float, nan, inf, fin, Format, up, down, round, unlike, sum, add, neg, sub, mul, div, lt}

@@ -2,15 +2,15 @@
 use mathlib.Core.Path.{_≡_, refl, sym, ap, _∙_, subst}
 use mathlib.Core.Bool.{Bool, true, false, not, cond, true≢false, false≢true}
 use Prim.Native.Nat.{ℕ, zero, suc, _+_, _-_, _*_, _/_, _%_, _^_, _≤_, _<_}
-use native.Mathlib.Nat.{le-of-suc-le-suc, lt-of-not-le, lt-irrefl, two-pow-succ, lt-of-lt-of-le, lt-of-le-of-lt, zero-mul, one-mul, mul-one, mul-comm, mul-assoc, mul-right-comm, mul-le-mul, mul-le-mul-right, mul-le-mul-left, mul-div-cancel, mul-pos, mod-eq-of-lt, zero-lt-suc}
+use native.Mathlib.Nat.{le-of-suc-le-suc, lt-irrefl, two-pow-succ, lt-of-lt-of-le, zero-mul, mul-one, mul-assoc, mul-right-comm, mul-le-mul-left, mul-div-cancel, mul-pos, mod-eq-of-lt}
 use native.Mathlib.Omega.{arith}
-use borrow.Author.Tests.{lt-ltb, le-ltb, lt-leb, le-leb, ne-eqb}
-use lib.Dec.{T, leb, ltb, eqb, lit≤, ltb→lt, nltb→le}
+use borrow.Author.Tests.{lt-ltb, lt-leb, le-leb, ne-eqb}
+use lib.Dec.{T, ltb, eqb, lit≤, ltb→lt, nltb→le}
 use lib.Arith.{le→nltb}
 use lib.Pow.{pow-pos, pow-mono, pow-add, shl-lt}
 use lib.Count.{trailingZeros, under}
 use lib.IntN.{ℤ}
-use lib.Ieee.{Float, nan, inf, fin, Format, binary64, prec, low, up, down, minus, odd, units, ofFields, ofBits, nanBits, isNan, ne, lt}
+use lib.Ieee.{Float, nan, inf, fin, Format, binary64, low, up, down, minus, odd, units, ofFields, ofBits, nanBits, isNan, ne, lt}
 use lib.Ieee.Fits.{down-pos}
 use lib.Ieee.Bits.{nanBits-is, nanBits-above}
 use lib.Ieee.Compare.{nan-differs}

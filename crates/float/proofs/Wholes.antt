@@ -1,12 +1,12 @@
 -- `floor`, `ceil` and `round` on a value above zero: below 2 ^ 52 by the whole number next to it (`small-is`), and from there on the value itself, which is whole (`large`); then by sign. Assumes nothing.
 use mathlib.Core.Path.{_≡_, refl, sym, ap, _∙_, subst}
-use Prim.Native.Nat.{ℕ, zero, suc, _+_, _-_, _*_, _/_, _%_, _^_, _≤_, _<_, zero-le}
-use native.Mathlib.Nat.{le-trans, le-of-eq, le-of-lt, lt-of-lt-of-le, lt-of-le-of-lt, not-le-of-lt, zero-lt-suc, zero-mul, mul-one, one-mul, mul-pos, div-one, div-add-mod', div-lt-iff-lt-mul, mod-lt, div-eq-of-lt-le, mul-left-comm, suc-mul, mul-le-mul-right, pow-succ'}
+use Prim.Native.Nat.{ℕ, zero, suc, _+_, _-_, _*_, _/_, _%_, _^_, _≤_, _<_}
+use native.Mathlib.Nat.{le-trans, le-of-eq, lt-of-lt-of-le, not-le-of-lt, zero-lt-suc, zero-mul, mul-one, one-mul, mul-pos, div-lt-iff-lt-mul, mul-le-mul-right, pow-succ'}
 use native.Mathlib.Numerals.{add-one}
 use native.Mathlib.Omega.{arith}
 use mathlib.Core.Bool.{Bool, true, false, not, true≢false}
 use lib.IntN.{ℤ, pos, negsuc}
-use lib.Dec.{T, ltb, ltb→lt, lt→ltb, nltb→le, T-not, lit<, lit≤}
+use lib.Dec.{T, ltb→lt, lt→ltb, nltb→le, lit<, lit≤}
 use lib.Pow.{pow-pos}
 use lib.Ieee.{Float, nan, inf, fin, binary64, up, down, round, add, sub, neg, lt, le, ofInt, toUnsigned, fits}
 use lib.Ieee.Fits.{down-pos, up-pos}
@@ -15,7 +15,8 @@ use lib.Ieee.Positive.{above, above-of-le}
 use Rattle.float.specs.Whole.{cut, lifted, halfUp, wholeBy, floorOf, ceilOf, roundOf}
 use Rattle.float.proofs.Exactly.{fits-says, fits-parts, zero-exp, few-exact, rest-few, round-self, neg-round}
 use Rattle.float.proofs.Compared.{nought, lt→cross, nlt→cross, le→value, nle→value, under-power, over-power, unsigned-value}
-use Rattle.float.proofs.Counts.{whole-is, whole-value, whole-add, whole-sub}
+use Rattle.float.proofs.Counts.{whole-value, whole-add, whole-sub}
+use Rattle.float.proofs.Picks.{Steps, stays, cut-steps, lifted-steps, half-steps, split, lifted-next, lifted-same, half-next, half-same}
 use Rattle.float.proofs.Cuts.{limit, bounced, gap, Bounce, over, under, bounce-is}
 
 -- ---- a value above zero and below the limit
@@ -45,37 +46,6 @@ cut-is x h k =
       unsigned-value 64 (fin false m e) (m * up e) (down e) (down-pos e) (refl, refl) (lt-of-lt-of-le h (mul-le-mul-right (down e) (lit≤ tt))),
       opened cut m e,
     )
-
--- ---- with a = q * c + r: what a / c is away from zero, and to the nearest
-module _ (a c : ℕ) (C : 0 < c) where
-  split : (a / c * c + a % c ≡ a) × (a % c < c) × (suc (a / c) * c ≡ a / c * c + c)
-  split = (div-add-mod' a c, mod-lt a C, suc-mul (a / c) c)
-
-  lifted-next : 0 < a % c → lifted a c ≡ suc (a / c)
-  lifted-next h =
-      let s = split in
-      let t : (suc (a / c) + 1) * c ≡ suc (a / c) * c + c = ap (λ (z : ℕ). z * c) (add-one (suc (a / c))) ∙ suc-mul (suc (a / c)) c in
-      div-eq-of-lt-le c (omega arith) (omega arith)
-
-  lifted-same : a % c ≡ 0 → lifted a c ≡ a / c
-  lifted-same h =
-      let s = split in
-      let t : (a / c + 1) * c ≡ suc (a / c) * c = ap (λ (z : ℕ). z * c) (add-one (a / c)) in
-      div-eq-of-lt-le c (omega arith) (omega arith)
-
-  half-next : c ≤ a % c * 2 → halfUp a c ≡ suc (a / c)
-  half-next h =
-      let s = split in
-      let t : suc (a / c) * (2 * c) ≡ 2 * (suc (a / c) * c) = mul-left-comm (suc (a / c)) 2 c in
-      let u : (suc (a / c) + 1) * (2 * c) ≡ suc (a / c) * (2 * c) + 2 * c = ap (λ (z : ℕ). z * (2 * c)) (add-one (suc (a / c))) ∙ suc-mul (suc (a / c)) (2 * c) in
-      div-eq-of-lt-le (2 * c) (omega arith) (omega arith)
-
-  half-same : a % c * 2 < c → halfUp a c ≡ a / c
-  half-same h =
-      let s = split in
-      let t : a / c * (2 * c) ≡ 2 * (a / c * c) = mul-left-comm (a / c) 2 c in
-      let u : (a / c + 1) * (2 * c) ≡ a / c * (2 * c) + 2 * c = ap (λ (z : ℕ). z * (2 * c)) (add-one (a / c)) ∙ suc-mul (a / c) (2 * c) in
-      div-eq-of-lt-le (2 * c) (omega arith) (omega arith)
 
 -- ---- what the code does with the whole number next to x
 abbrev unit : Float
@@ -197,27 +167,15 @@ small-is x t h k =
     subst Small (sym (w .2)) (small-at (w .0) (w .1) (subst (λ (y : Float). T (fits binary64 y)) (w .2) t) (w .3) (bounce-is (w .0) (w .1) (w .3)))
 
 -- ---- a value that is whole already: from 2 ^ 52 on, and zero
-abbrev pub Keeps : (ℕ → ℕ → ℕ) → Type 0
-Keeps pick = (n : ℕ) → pick n 1 ≡ n
-
-pub cut-keeps : Keeps cut
-cut-keeps n = div-one n
-
-pub lifted-keeps : Keeps lifted
-lifted-keeps n = omega arith
-
-pub halfUp-keeps : Keeps halfUp
-halfUp-keeps n = omega arith
-
 too-long : (m p : ℕ) → 0 < p → m < 2 ^ 53 → 2 ^ 52 * (2 * p) ≤ m → ⊥
 too-long m p P h k = omega arith
 
-pub large : (pick : ℕ → ℕ → ℕ) → Keeps pick → (x : Float) → T (fits binary64 x) → T (lt nought x) → T (not (lt x limit)) → x ≡ wholeBy pick x
+pub large : (pick : ℕ → ℕ → ℕ) → Steps pick → (x : Float) → T (fits binary64 x) → T (lt nought x) → T (not (lt x limit)) → x ≡ wholeBy pick x
 unfolding wholeBy lt
 large pick i nan t h k = absurd h
 large pick i (inf s) t h k = refl
 large pick i (fin true m e) t h k = absurd h
-large pick i (fin false m (pos l)) t h k = sym (ap (λ (z : ℕ). round binary64 false z 1) (i (m * 2 ^ l)) ∙ round-self binary64 false m (pos l) t)
+large pick i (fin false m (pos l)) t h k = sym (ap (λ (z : ℕ). round binary64 false z 1) (stays pick i (m * 2 ^ l)) ∙ round-self binary64 false m (pos l) t)
 large pick i (fin false zero (negsuc l)) t h k = absurd (no-zero (0 * 1 * 1) refl (ltb→lt (0 * 1 * 2 ^ suc l) (0 * 1 * 1) h))
   where
     no-zero : (z : ℕ) {y : ℕ} → z ≡ 0 → y < z → ⊥
@@ -227,12 +185,12 @@ large pick i (fin false (suc m) (negsuc l)) t h k =
     (le-trans (le-of-eq (ap (λ (z : ℕ). 2 ^ 52 * z) (sym (pow-succ' 2 l)))) (le-trans (over-power (fin false (suc m) (negsuc l)) (suc m * 1) (2 ^ suc l) 52 (pow-pos (suc l)) (refl, refl) k) (le-of-eq (mul-one (suc m))))))
 
 -- neither above nor below zero: a NaN or a zero
-pub zero-keeps : (pick : ℕ → ℕ → ℕ) → Keeps pick → (s : Bool) (e : ℤ) → T (fits binary64 (fin s 0 e)) → fin s 0 e ≡ wholeBy pick (fin s 0 e)
+pub zero-keeps : (pick : ℕ → ℕ → ℕ) → Steps pick → (s : Bool) (e : ℤ) → T (fits binary64 (fin s 0 e)) → fin s 0 e ≡ wholeBy pick (fin s 0 e)
 unfolding wholeBy
 zero-keeps pick i s e t =
     let z = zero-exp binary64 s e t in
     let u : T (fits binary64 (fin s 0 (pos 0))) = subst (λ (x : ℤ). T (fits binary64 (fin s 0 x))) z t in
-    subst (λ (x : ℤ). fin s 0 x ≡ wholeBy pick (fin s 0 x)) (sym z) (sym (ap (λ (n : ℕ). round binary64 s n 1) (i 0) ∙ round-self binary64 s 0 (pos 0) u))
+    subst (λ (x : ℤ). fin s 0 x ≡ wholeBy pick (fin s 0 x)) (sym z) (sym (ap (λ (n : ℕ). round binary64 s n 1) (stays pick i 0) ∙ round-self binary64 s 0 (pos 0) u))
 
 -- ---- the sign
 pub neg-whole : (pick : ℕ → ℕ → ℕ) (x : Float) → neg (wholeBy pick (neg x)) ≡ wholeBy pick x
@@ -308,13 +266,13 @@ ceil-below (fin false m e) h = no-minus m e h
 
 floor-zero : (s : Bool) (e : ℤ) → T (fits binary64 (fin s 0 e)) → fin s 0 e ≡ floorOf (fin s 0 e)
 unfolding floorOf
-floor-zero false e t = zero-keeps cut cut-keeps false e t
-floor-zero true e t = zero-keeps lifted lifted-keeps true e t
+floor-zero false e t = zero-keeps cut cut-steps false e t
+floor-zero true e t = zero-keeps lifted lifted-steps true e t
 
 ceil-zero : (s : Bool) (e : ℤ) → T (fits binary64 (fin s 0 e)) → fin s 0 e ≡ ceilOf (fin s 0 e)
 unfolding ceilOf
-ceil-zero false e t = zero-keeps lifted lifted-keeps false e t
-ceil-zero true e t = zero-keeps cut cut-keeps true e t
+ceil-zero false e t = zero-keeps lifted lifted-steps false e t
+ceil-zero true e t = zero-keeps cut cut-steps true e t
 
 pub floor-none : (x : Float) → T (not (lt nought x)) → T (not (lt x nought)) → T (fits binary64 x) → x ≡ floorOf x
 unfolding floorOf
@@ -326,4 +284,4 @@ ceil-none = unsigned-only (λ (x : Float). T (fits binary64 x) → x ≡ ceilOf 
 
 pub round-none : (x : Float) → T (not (lt nought x)) → T (not (lt x nought)) → T (fits binary64 x) → x ≡ roundOf x
 unfolding roundOf
-round-none = unsigned-only (λ (x : Float). T (fits binary64 x) → x ≡ roundOf x) (λ _. refl) (zero-keeps halfUp halfUp-keeps)
+round-none = unsigned-only (λ (x : Float). T (fits binary64 x) → x ≡ roundOf x) (λ _. refl) (zero-keeps halfUp half-steps)

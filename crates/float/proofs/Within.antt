@@ -1,22 +1,23 @@
 -- How large a result can be. `Within k x`: x is finite and at most 2 ^ k in size. Sums, differences, products and quotients of such values stay such, `add-within`, `sub-within`, `mul-within`, `div-within`; so do `neg`, `abs`, floor, ceil and round.
 -- `le-within`, `within-le`: the test |x| <= 2 ^ k. `within-finite`, `within-number`: it is finite, and no NaN. Over any format but for the whole numbers. Assumes nothing.
-use mathlib.Core.Path.{_≡_, refl, sym, ap, _∙_, subst}
-use Prim.Native.Nat.{ℕ, zero, suc, _+_, _-_, _*_, _/_, _^_, _≤_, _<_, zero-le}
-use native.Mathlib.Nat.{zero-mul, zero-lt-suc, pow-succ', le-trans, le-of-eq, le-of-lt, le-refl, lt-of-lt-of-le, lt-of-le-of-lt, mul-one, one-mul, mul-pos, mul-comm, mul-assoc, mul-right-comm, mul-mul-mul-comm, mul-le-mul, mul-le-mul-left, mul-le-mul-right, le-of-mul-le-mul-right, pow-suc}
+use mathlib.Core.Path.{_≡_, sym, ap, _∙_, subst}
+use Prim.Native.Nat.{ℕ, zero, suc, _+_, _-_, _*_, _^_, _≤_, _<_}
+use native.Mathlib.Nat.{zero-mul, zero-lt-suc, pow-succ', le-trans, le-of-eq, lt-of-lt-of-le, lt-of-le-of-lt, mul-one, one-mul, mul-pos, mul-comm, mul-assoc, mul-right-comm, mul-mul-mul-comm, mul-le-mul, mul-le-mul-right, le-of-mul-le-mul-right}
 use native.Mathlib.Omega.{arith}
 use mathlib.Core.Bool.{Bool, true, false, not, _&&_, Bool·beq, cond, true≢false}
-use lib.IntN.{ℤ, pos}
+use lib.IntN.{pos}
 use lib.Dec.{T, ltb, eqb, lit<}
-use lib.Pow.{pow-add, pow-pos, pow-mono, pow-lt}
+use lib.Pow.{pow-add, pow-mono, pow-lt}
 use lib.Ieee.{Float, nan, inf, fin, Format, binary64, prec, emax, low, unlike, up, down, round, sum, neg, add, sub, mul, div, le, isNan, ofInt}
-use lib.Ieee.Fits.{down-pos, two, reach}
+use lib.Ieee.Fits.{down-pos, two}
 use lib.Ieee.Exact.{HasValue, round-exact}
 use lib.Ieee.Scale.{finite}
 use lib.Ieee.Order.{round-mono}
 use Rattle.float.specs.Ops.{absOf}
-use Rattle.float.specs.Whole.{cut, lifted, halfUp, wholeBy, floorOf, ceilOf, roundOf}
+use Rattle.float.specs.Whole.{floorOf, ceilOf, roundOf}
 use Rattle.float.proofs.Exactly.{neg-round}
-use Rattle.float.proofs.Monotone.{le-fin, fin-le, wholly, Steps, floor-pick, ceil-pick, round-pick, floor-steps, ceil-steps, round-steps, floor-is, ceil-is, round-is}
+use Rattle.float.proofs.Monotone.{le-fin, fin-le, wholly, floor-pick, ceil-pick, round-pick, floor-steps, ceil-steps, round-steps, floor-is, ceil-is, round-is}
+use Rattle.float.proofs.Picks.{Steps}
 use Rattle.float.proofs.Signs.{Signed, round-signed}
 use Rattle.float.proofs.Sums.{cond-nil}
 

@@ -1,5 +1,5 @@
 -- `float::compare::max` meets its contract. Assumes nothing.
-use mathlib.Core.Path.{_≡_, refl, sym, ap, _∙_}
+use mathlib.Core.Path.{_≡_, sym, ap}
 use mathlib.Core.Bool.{Bool, true, false, cond}
 use lib.Ieee.{Float, nan, lt, isNan}
 use lib.Ieee.Bits.{is-false}

@@ -1,9 +1,6 @@
 -- `float::remainder::rem` meets its contract. Assumes nothing.
-use mathlib.Core.Path.{_≡_, refl, sym, ap, _∙_, subst}
 use borrow.Author.Needs.{needs}
-use lib.Dec.{T}
-use lib.Ieee.{Float, binary64, lt}
-use Rattle.float.specs.Ops.{absOf}
+use lib.Ieee.{binary64}
 use Rattle.float.proofs.Compared.{yes}
 use Rattle.float.proofs.Remainders.{rem-small}
 use Rattle.float.proofs.remainder.rem.Statement.{statement}

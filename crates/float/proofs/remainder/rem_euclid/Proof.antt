@@ -1,5 +1,5 @@
 -- `float::remainder::rem_euclid` meets its contract. Assumes nothing.
-use mathlib.Core.Path.{_≡_, refl, sym, ap, _∙_, subst}
+use mathlib.Core.Path.{_≡_, sym, ap, _∙_}
 use mathlib.Core.Bool.{Bool, true, false, cond}
 use borrow.Author.Needs.{needs}
 use lib.Ieee.{Float, binary64, lt, add, rem}

@@ -1,12 +1,12 @@
 -- `float::root::scaled` meets its contract. Assumes nothing.
 use Prim.Native.Nat.{ℕ, suc, _+_, _-_, _*_, _/_, _%_, _^_, _≤_, _<_}
-use mathlib.Core.Path.{_≡_, refl, sym, ap, _∙_, subst}
+use mathlib.Core.Path.{_≡_, sym, ap, _∙_, subst}
 use mathlib.Core.Bool.{Bool, cond}
-use native.Mathlib.Nat.{lt-of-not-le, lt-irrefl, lt-of-le-of-lt, le-trans, mul-assoc, mul-le-mul-right}
+use native.Mathlib.Nat.{lt-of-not-le, lt-irrefl, le-trans, mul-assoc, mul-le-mul-right}
 use native.Mathlib.Omega.{arith}
 use borrow.Author.Needs.{needs}
 use borrow.Author.Tests.{lt-ltb, le-ltb}
-use lib.Pow.{pow-add, pow-mono, pow-pos, shl-lt, shl-exact}
+use lib.Pow.{pow-add, pow-mono, shl-lt, shl-exact}
 use lib.Count.{leadingZeros, leading-le, leading-top}
 use Rattle.float.specs.RootSteps.{Scaled, counted}
 use Rattle.float.proofs.root.scaled.Statement.{statement}

@@ -1,9 +1,8 @@
 -- `float::root::sqrt_bits` meets its contract. Assumes nothing.
-use Prim.Native.Nat.{ℕ, _+_, _-_, _*_, _/_, _%_, _^_, _≤_, _<_}
+use Prim.Native.Nat.{ℕ, _+_, _*_, _%_, _^_, _≤_, _<_}
 use native.Mathlib.Omega.{arith}
 use native.Mathlib.Nat.{mul-le-mul-left}
 use borrow.Author.Needs.{needs}
-use Rattle.float.specs.RootSteps.{counted}
 use Rattle.float.proofs.Value.{Result, result, counted-pos, no-nan-bits}
 use Rattle.float.proofs.root.sqrt_bits.Statement.{statement}
 use Rattle.float.proofs.root.sqrt_bits.Tie as tie

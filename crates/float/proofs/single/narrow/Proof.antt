@@ -1,13 +1,13 @@
 -- `float::single::narrow` meets its contract, by its bit pattern. Assumes nothing.
-use mathlib.Core.Path.{_≡_, sym, ap, _∙_}
+use mathlib.Core.Path.{sym, ap, _∙_}
 use mathlib.Core.Bool.{not}
-use Prim.Native.Nat.{ℕ, _+_, _*_, _/_, _%_, _^_, _<_, _≤_}
+use Prim.Native.Nat.{_^_, _<_, _≤_}
 use native.Mathlib.Omega.{arith}
 use lib.Dec.{T}
-use lib.Ieee.{Float, nan, binary32, binary64, fits, isNan, ofBits, toBits, div}
+use lib.Ieee.{binary64, fits, isNan, ofBits, toBits, div}
 use lib.Ieee.Bits.{ofBits-toBits, toBits-lt}
 use lib.Ieee.Compare.{differs-from-itself}
-use Rattle.float.specs.Narrow.{narrowOf, Narrowed}
+use Rattle.float.specs.Narrow.{narrowOf}
 use Rattle.float.proofs.Compared.{yes, no}
 use Rattle.float.proofs.Narrowing.{with-sign, not-nan, magnitude-le, pattern-ok}
 use Rattle.float.proofs.single.narrow.Statement.{statement}

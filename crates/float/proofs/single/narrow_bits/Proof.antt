@@ -1,10 +1,10 @@
 -- `float::single::narrow_bits` meets its contract: each range of `a` is a lemma of `proofs/Narrowing.antt`. Assumes nothing.
 use mathlib.Core.Path.{_≡_, sym, _∙_, subst}
-use Prim.Native.Nat.{ℕ, _+_, _-_, _*_, _/_, _%_, _^_, _<_, _≤_}
+use Prim.Native.Nat.{ℕ, _+_, _-_, _*_, _/_, _%_, _^_, _≤_}
 use native.Mathlib.Nat.{le-trans, le-of-eq, lt-of-le-of-lt, mod-eq-of-lt, one-mul}
 use native.Mathlib.Omega.{arith}
 use borrow.Author.Needs.{needs}
-use lib.Dec.{lit≤, lit<}
+use lib.Dec.{lit<}
 use lib.Pow.{pow-pos, pow-mono}
 use Rattle.float.specs.Narrow.{Narrowed}
 use Rattle.float.proofs.Narrowing.{normal, over, sub, tiny}

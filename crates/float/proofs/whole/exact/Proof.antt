@@ -7,8 +7,6 @@ use mir.ValLaws.{toZ-pos}
 use borrow.Author.Needs.{needs}
 use Rattle.float.proofs.whole.exact.Statement.{statement}
 use Rattle.float.proofs.whole.exact.Tie as tie
-use Rattle.float.proofs.whole.exact.Reads as reads
-use Rattle.float.proofs.whole.exact.Lts as lts
 
 cast-k : tie.Need-cast-k
 cast-k c = search needs

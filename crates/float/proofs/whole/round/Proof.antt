@@ -1,9 +1,8 @@
 -- `float::whole::round` meets its contract. Assumes nothing.
-use mathlib.Core.Path.{_≡_, sym, ap, _∙_}
-use mathlib.Core.Bool.{not}
+use mathlib.Core.Path.{ap, _∙_}
 use lib.Dec.{T}
-use lib.Ieee.{ofBits, neg, fits, lt, binary64}
-use Rattle.float.specs.Whole.{cut, lifted, halfUp, roundOf}
+use lib.Ieee.{ofBits, neg, lt}
+use Rattle.float.specs.Whole.{halfUp, roundOf}
 use Rattle.float.proofs.Compared.{nought, yes, no}
 use Rattle.float.proofs.Wholes.{neg-above, neg-whole, round-none}
 use Rattle.float.proofs.whole.round.Statement.{statement}

@@ -2,7 +2,8 @@
 use lib.Ieee.{ofBits}
 use Rattle.float.specs.Whole.{lifted}
 use Rattle.float.proofs.Compared.{yes, no}
-use Rattle.float.proofs.Wholes.{Small, small-is, large, lifted-keeps}
+use Rattle.float.proofs.Picks.{lifted-steps}
+use Rattle.float.proofs.Wholes.{Small, small-is, large}
 use Rattle.float.proofs.whole.whole_up.Statement.{statement}
 use Rattle.float.proofs.whole.whole_up.Tie as tie
 
@@ -20,7 +21,7 @@ returns-2 c = next-to (c .before) .up-same (no (c .if2 .left))
 
 returns-3 : tie.Need-returns-3
 unfolding ofBits
-returns-3 c = large lifted lifted-keeps (c .before .args .x) (yes (c .before .good .0 .1)) (c .before .pre) (no (c .if1 .left))
+returns-3 c = large lifted lifted-steps (c .before .args .x) (yes (c .before .good .0 .1)) (c .before .pre) (no (c .if1 .left))
 
 pub whole-up-spec : {M : Type 1} → statement M
 whole-up-spec = tie.close (tie.spec returns returns-2 returns-3)
