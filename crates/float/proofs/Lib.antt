@@ -1,20 +1,35 @@
--- Laws that the proofs of `float` share and that the crates above cite.
+-- Laws that the proofs of `float` share and that the crates above cite, by subject. `HasValue x s a c` of `lib.Ieee.Exact` says that x is finite, has the sign s and is a / c in size: work with it, and not with digits and exponents.
+
+-- Digits      powers of two, numbers of digits, what `compare` says
+-- Exactly     a format writes each number in one way: `unique`, `round-self`, `round-value`, `few-exact`, `neg-round`
+-- Compared    `<` and `<=` on values from 0 up, and the cast to an integer: `lt→cross`, `le→value`, `unsigned-value`, `unsigned-none`; `yes`, `no` turn a branch's equation into `T`
+-- Sums        + - * / on values: `add-over`, `sub-over`, `mul-over`, `div-over`; above and below zero: `under-zero`, `over-zero`, `not-under`
+-- Ordered     the cast keeps the order, for all floats: `unsigned-mono`; a difference above zero has its operands in order: `sub-above`; `quotient-mono`
+-- Counts      whole numbers as floats: `whole-value`, `whole-back`, `whole-injective`, `whole-lt`, `whole-le`, `whole-add`, `whole-sub`, `whole-mul`
+-- Signs       the sign of a result, and that it is no NaN: `round-signed`, `add-signed`, `square-signed`, `mul-signed`, `div-signed`, `sqrt-signed`, `abs-signed`
+-- Monotone    `neg-le`, `lt-le`, `not-lt-le`, `le-through`, `signed-le`; `floor-mono`, `ceil-mono`, `round-mono`; `floor-keeps`, `ceil-keeps`, `round-keeps`
+-- Within      how large a result can be, so that it is finite: `add-within`, `sub-within`, `mul-within`, `div-within`, `floor-within`, `ceil-within`, `nearest-within`, `whole-within`; `le-within`, `within-le`
+-- Intervals   from tests on floats to bounds on whole numbers: `interval-is`, `ends-ordered`, `floor-upto`, `ceil-upto`, `round-upto`, `upto-back`, `upto-is`
+-- Picks, Cuts, Wholes     floor, ceil, round by the whole number next to x
+-- Remainders  `rem-small`, and what `rem_one` does in place of `%`
+-- Patterns, Narrowing     bit patterns, and the f32 nearest to an f64
+-- Squares, Roots, Value, Meaning     the square root; `sqrt-nearest`: no other value is nearer to it; `nearest-unique`
 pub mod Digits
 pub mod Exactly
 pub mod Compared
-pub mod Picks
-pub mod Wholes
 pub mod Sums
-pub mod Cuts
-pub mod Remainders
+pub mod Ordered
 pub mod Counts
 pub mod Signs
 pub mod Monotone
 pub mod Within
 pub mod Intervals
+pub mod Picks
+pub mod Cuts
+pub mod Wholes
+pub mod Remainders
 pub mod Patterns
 pub mod Narrowing
-pub mod Ordered
 pub mod Squares
 pub mod Roots
 pub mod Value

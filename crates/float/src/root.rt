@@ -8,20 +8,22 @@ ghost use lib.Ieee.{binary64, ofBits, nanBits};
 ghost use Rattle.float.specs.Sqrt.{sqrtOf};
 ghost use Rattle.float.specs.RootSteps.{NearRoot, Rooted, Scaled, counted};
 
-pub struct Pair {
-    pub q: u64,
-    pub r: u64,
+// The whole part of a root, and the rest: what its square leaves of the number.
+struct WholeRoot {
+    pub root: u64,
+    pub rest: u64,
 }
 
-pub struct Wide {
-    pub m: u64,
-    pub e: u64,
+// digits * 2^exponent
+struct Significand {
+    pub digits: u64,
+    pub exponent: u64,
 }
 
 // The whole root of h and what is left over, a binary digit of the root at a time from the top.
-pub fn root(h: u64) -> Pair
+fn root_by_digits(h: u64) -> WholeRoot
     requires { ⌜ h < 2 ^ 54 ⌝ }
-    ensures { λ o. ⌜ Rooted h (o .q) (o .r) ⌝ }
+    ensures { λ o. ⌜ Rooted h (o .root) (o .rest) ⌝ }
 {
     let mut q: u64 = 0;
     let mut r: u64 = 0;
@@ -38,47 +40,53 @@ pub fn root(h: u64) -> Pair
             q = q * 2;
         }
     }
-    Pair { q, r }
+    WholeRoot { root: q, rest: r }
 }
 
 // The same from a guess at the root, which may be any number: the guess or a neighbour of it is the
 // root, or the digits are made one by one.
-pub fn root_by(h: u64, c: u64) -> Pair
+fn root_from_guess(h: u64, guess: u64) -> WholeRoot
     requires { ⌜ h < 2 ^ 54 ⌝ }
-    ensures { λ o. ⌜ Rooted h (o .q) (o .r) ⌝ }
+    ensures { λ o. ⌜ Rooted h (o .root) (o .rest) ⌝ }
 {
-    if c < 0x1000_0000 {
-        let s = c * c;
-        let d = c * 2;
+    if guess < 0x1000_0000 {
+        let s = guess * guess;
+        let d = guess * 2;
         if s <= h {
             let r = h - s;
             if r <= d {
-                return Pair { q: c, r };
+                return WholeRoot {
+                    root: guess,
+                    rest: r,
+                };
             }
             let t = r - d - 1;
             if t <= d + 2 {
-                return Pair { q: c + 1, r: t };
+                return WholeRoot {
+                    root: guess + 1,
+                    rest: t,
+                };
             }
         } else {
             let t = s - h;
             if t < d {
-                return Pair {
-                    q: c - 1,
-                    r: d - 1 - t,
+                return WholeRoot {
+                    root: guess - 1,
+                    rest: d - 1 - t,
                 };
             }
         }
     }
-    root(h)
+    root_by_digits(h)
 }
 
-// A guess at the root of m, or of 2 * m where o is 1: the fast inverse square root, from the bit
+// A guess at the root of digits, or of twice that where odd is 1: the fast inverse square root, from the bit
 // pattern, with three of Newton's steps. Nothing is claimed of it.
-pub fn guess(m: u64, o: u64) -> u64
-    requires { ⌜ m < 2 ^ 53 ⌝ }
-    requires { ⌜ o < 2 ⌝ }
+fn guess_root(digits: u64, odd: u64) -> u64
+    requires { ⌜ digits < 2 ^ 53 ⌝ }
+    requires { ⌜ odd < 2 ⌝ }
 {
-    let i = 0x4320_0000_0000_0000 + o * 0x10_0000_0000_0000 + m;
+    let i = 0x4320_0000_0000_0000 + odd * 0x10_0000_0000_0000 + digits;
     let f = f64::from_bits(i);
     let y0 = f64::from_bits(0x5fe6_eb50_c7b5_37a9 - (i >> 1));
     let g = f * 0.5;
@@ -92,72 +100,73 @@ pub fn guess(m: u64, o: u64) -> u64
     0
 }
 
-// From the root of a number to that of the number with 52 binary zeros after it.
-pub fn extend(s: u64, l: u64) -> Pair
-    requires { ⌜ 2 ^ 26 ≤ s ⌝ }
-    requires { ⌜ s < 2 ^ 27 ⌝ }
-    requires { ⌜ l ≤ 2 * s ⌝ }
-    ensures { λ o. ⌜ Rooted ((s * s + l) * 2 ^ 52) (o .q) (o .r) ⌝ }
+// From the root of a number, root * root + rest, to that of the number with 52 binary zeros after it.
+fn extend_root(root: u64, rest: u64) -> WholeRoot
+    requires { ⌜ 2 ^ 26 ≤ root ⌝ }
+    requires { ⌜ root < 2 ^ 27 ⌝ }
+    requires { ⌜ rest ≤ 2 * root ⌝ }
+    ensures { λ o. ⌜ Rooted ((root * root + rest) * 2 ^ 52) (o .root) (o .rest) ⌝ }
 {
-    let n = l * 0x400_0000;
-    let d = s * 2;
+    let n = rest * 0x400_0000;
+    let d = root * 2;
     let a = n / d;
     let v = (n % d) * 0x400_0000;
     let w = a * a;
-    let q = s * 0x400_0000 + a;
+    let q = root * 0x400_0000 + a;
     let under = (v < w) as u64;
-    Pair {
-        q: q - under,
-        r: v + under * (q * 2 - 1) - w,
+    WholeRoot {
+        root: q - under,
+        rest: v + under * (q * 2 - 1) - w,
     }
 }
 
-// The whole number nearest to the root of h with 52 binary zeros after it. g is a guess at the root
+// The whole number nearest to the root of h with 52 binary zeros after it, from a guess at the root
 // of h.
-pub fn near(h: u64, g: u64) -> u64
+fn nearest_root(h: u64, guess: u64) -> u64
     requires { ⌜ 2 ^ 52 ≤ h ⌝ }
     requires { ⌜ h < 2 ^ 54 ⌝ }
     ensures { λ c. ⌜ NearRoot (h * 2 ^ 52) c ⌝ }
 {
-    let o = root_by(h, g);
-    let p = extend(o.q, o.r);
-    if p.r <= p.q { p.q } else { p.q + 1 }
+    let o = root_from_guess(h, guess);
+    let p = extend_root(o.root, o.rest);
+    if p.rest <= p.root { p.root } else { p.root + 1 }
 }
 
-// The number that a bit pattern stands for, times 2 ^ 2148, as m * 2 ^ e with an m of 53 digits.
-pub fn scaled(b: u64) -> Wide
+// The number that a bit pattern stands for, times 2^2148, as digits * 2^exponent with 53 digits.
+fn split_bits(b: u64) -> Significand
     requires { ⌜ 0 < b ⌝ }
     requires { ⌜ b < 0x7ff0_0000_0000_0000 ⌝ }
-    ensures { λ o. ⌜ Scaled (counted b * 2 ^ 1074) (o .m) (o .e) ⌝ }
+    ensures { λ o. ⌜ Scaled (counted b * 2 ^ 1074) (o .digits) (o .exponent) ⌝ }
 {
     if b < 0x10_0000_0000_0000 {
         let z = u64::leading_zeros(b) as u64 - 11;
-        return Wide {
-            m: b << z,
-            e: 1074 - z,
+        return Significand {
+            digits: b << z,
+            exponent: 1074 - z,
         };
     }
-    Wide {
-        m: 0x10_0000_0000_0000 + b % 0x10_0000_0000_0000,
-        e: (b >> 52) + 1073,
+    Significand {
+        digits: 0x10_0000_0000_0000 + b % 0x10_0000_0000_0000,
+        exponent: (b >> 52) + 1073,
     }
 }
 
 // The bit pattern of the root of what a bit pattern stands for.
-pub fn sqrt_bits(b: u64) -> u64
+fn sqrt_bits(b: u64) -> u64
     requires { ⌜ 0 < b ⌝ }
     requires { ⌜ b < 0x7ff0_0000_0000_0000 ⌝ }
     ensures value { λ r. ⌜ ofBits binary64 r ≡ sqrtOf binary64 (ofBits binary64 b) ⌝ }
     ensures number { λ r. ⌜ T (not (nanBits binary64 r)) ⌝ }
 {
-    let w = scaled(b);
-    let odd = w.e % 2;
-    let h = w.m * (1 + odd);
-    let g = guess(w.m, odd);
-    let c = near(h, g);
-    (w.e - 52) / 2 * 0x10_0000_0000_0000 + c
+    let w = split_bits(b);
+    let odd = w.exponent % 2;
+    let h = w.digits * (1 + odd);
+    let g = guess_root(w.digits, odd);
+    let c = nearest_root(h, g);
+    (w.exponent - 52) / 2 * 0x10_0000_0000_0000 + c
 }
 
+// Rust: f64::sqrt.
 pub fn sqrt(x: f64) -> f64
     ensures { λ r. ⌜ r ≡ sqrtOf binary64 x ⌝ }
 {

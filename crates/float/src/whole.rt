@@ -69,6 +69,7 @@ pub fn to_whole(x: f64) -> usize
     }
 }
 
+// Rust: f64::floor.
 pub fn floor(x: f64) -> f64
     ensures { λ r. ⌜ r ≡ floorOf x ⌝ }
 {
@@ -81,6 +82,7 @@ pub fn floor(x: f64) -> f64
     }
 }
 
+// Rust: f64::ceil.
 pub fn ceil(x: f64) -> f64
     ensures { λ r. ⌜ r ≡ ceilOf x ⌝ }
 {
@@ -93,6 +95,7 @@ pub fn ceil(x: f64) -> f64
     }
 }
 
+// Rust: f64::round, a half away from zero.
 pub fn round(x: f64) -> f64
     ensures { λ r. ⌜ r ≡ roundOf x ⌝ }
 {

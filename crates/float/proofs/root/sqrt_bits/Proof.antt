@@ -17,16 +17,16 @@ doubled m o h k l = (omega (arith, mul-le-mul-left m (one o)), omega (arith, mul
     two : (o : ℕ) → o < 2 → 1 + o ≤ 2
     two o h = omega arith
 
-wide : (c : tie.After-scaled) → (2 ^ 52 ≤ c .scaled .result .m * (1 + c .scaled .result .e % 2)) × (c .scaled .result .m * (1 + c .scaled .result .e % 2) < 2 ^ 54)
-wide c = doubled (c .scaled .result .m) (c .scaled .result .e % 2) (omega arith) (c .scaled .ensures .most) (c .scaled .ensures .least)
+wide : (c : tie.After-split-bits) → (2 ^ 52 ≤ c .split-bits .result .digits * (1 + c .split-bits .result .exponent % 2)) × (c .split-bits .result .digits * (1 + c .split-bits .result .exponent % 2) < 2 ^ 54)
+wide c = doubled (c .split-bits .result .digits) (c .split-bits .result .exponent % 2) (omega arith) (c .split-bits .ensures .most) (c .split-bits .ensures .least)
 
-found : (c : tie.After-near) → Result (c .before .before .before .before .before .args .b) (c .before .before .before .before .scaled .result .m) (c .before .before .before .before .scaled .result .e) (c .near .result)
+found : (c : tie.After-nearest-root) → Result (c .before .before .before .before .before .args .b) (c .before .before .before .before .split-bits .result .digits) (c .before .before .before .before .split-bits .result .exponent) (c .nearest-root .result)
 found c =
     let s = c .before .before .before .before in
-    result (s .before .args .b) (s .scaled .result .m) (s .scaled .result .e) (c .near .result) (counted-pos (s .before .args .b) (s .before .pre .0)) (s .before .pre .1) (s .scaled .ensures) (c .near .ensures)
+    result (s .before .args .b) (s .split-bits .result .digits) (s .split-bits .result .exponent) (c .nearest-root .result) (counted-pos (s .before .args .b) (s .before .pre .0)) (s .before .pre .1) (s .split-bits .ensures) (c .nearest-root .ensures)
 
-scaled-requires : tie.Need-scaled-requires
-scaled-requires c κs = search needs
+split-bits-requires : tie.Need-split-bits-requires
+split-bits-requires c κs = search needs
 
 add-h : tie.Need-add-h
 add-h c = search needs
@@ -34,11 +34,11 @@ add-h c = search needs
 mul-h : tie.Need-mul-h
 mul-h c = let w = wide (c .before .before) in omega arith
 
-guess-requires : tie.Need-guess-requires
-guess-requires c κs = search needs
+guess-root-requires : tie.Need-guess-root-requires
+guess-root-requires c κs = search needs
 
-near-requires : tie.Need-near-requires
-near-requires c κs = let w = wide (c .before .before .before) in (w .0, w .1)
+nearest-root-requires : tie.Need-nearest-root-requires
+nearest-root-requires c κs = let w = wide (c .before .before .before) in (w .0, w .1)
 
 sub-result : tie.Need-sub-result
 sub-result c = search needs
@@ -47,14 +47,14 @@ mul-result : tie.Need-mul-result
 mul-result c = search needs
 
 add-result : tie.Need-add-result
-add-result c = let w = found (c .before) in omega (arith, c .before .before .before .before .before .scaled .ensures .ceil)
+add-result c = let w = found (c .before) in omega (arith, c .before .before .before .before .before .split-bits .ensures .ceil)
 
 returns : tie.Need-returns
 returns c =
     let w = found (c .before) in
-    (w .value, no-nan-bits _ (omega (arith, w .small, c .before .before .before .before .before .scaled .ensures .ceil)))
+    (w .value, no-nan-bits _ (omega (arith, w .small, c .before .before .before .before .before .split-bits .ensures .ceil)))
 
 pub sqrt-bits-spec : {M : Type 1} → statement M
 sqrt-bits-spec =
     tie.close
-    (tie.spec scaled-requires add-h mul-h guess-requires near-requires sub-result mul-result add-result returns)
+    (tie.spec split-bits-requires add-h mul-h guess-root-requires nearest-root-requires sub-result mul-result add-result returns)

@@ -1,4 +1,4 @@
--- `float::root::scaled` meets its contract. Assumes nothing.
+-- `float::root::split_bits` meets its contract. Assumes nothing.
 use Prim.Native.Nat.{ℕ, suc, _+_, _-_, _*_, _/_, _%_, _^_, _≤_, _<_}
 use mathlib.Core.Path.{_≡_, sym, ap, _∙_, subst}
 use mathlib.Core.Bool.{Bool, cond}
@@ -9,8 +9,8 @@ use borrow.Author.Tests.{lt-ltb, le-ltb}
 use lib.Pow.{pow-add, pow-mono, shl-lt, shl-exact}
 use lib.Count.{leadingZeros, leading-le, leading-top}
 use Rattle.float.specs.RootSteps.{Scaled, counted}
-use Rattle.float.proofs.root.scaled.Statement.{statement}
-use Rattle.float.proofs.root.scaled.Tie as tie
+use Rattle.float.proofs.root.split_bits.Statement.{statement}
+use Rattle.float.proofs.root.split_bits.Tie as tie
 
 -- the place of the leading digit of a number of 52 bits: the zeros before it, and what it bounds
 top : (b : ℕ) → 0 < b → b < 2 ^ 52 → (j : ℕ) × (leadingZeros 64 b + suc j ≡ 64) × (2 ^ j ≤ b) × (b < 2 ^ suc j) × (j < 52)
@@ -87,5 +87,5 @@ add-t10 c = search needs
 returns-2 : tie.Need-returns-2
 returns-2 c = normal (c .before .args .b) (c .if1 .left) (c .before .pre .1)
 
-pub scaled-spec : {M : Type 1} → statement M
-scaled-spec = tie.close (tie.spec cast-z sub-z shl-t5 sub-t6 returns add-t8 add-t10 returns-2)
+pub split-bits-spec : {M : Type 1} → statement M
+split-bits-spec = tie.close (tie.spec cast-z sub-z shl-t5 sub-t6 returns add-t8 add-t10 returns-2)

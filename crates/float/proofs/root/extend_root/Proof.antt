@@ -1,4 +1,4 @@
--- `float::root::extend` meets its contract. The guess is corrected by a flag and not by a branch. Assumes nothing.
+-- `float::root::extend_root` meets its contract. The guess is corrected by a flag and not by a branch. Assumes nothing.
 use Prim.Native.Nat.{ℕ, _+_, _-_, _*_, _/_, _%_, _^_, _≤_, _<_}
 use mathlib.Core.Path.{_≡_, ap}
 use mathlib.Core.Bool.{Bool, true, false, not}
@@ -8,11 +8,11 @@ use lib.Dec.{T, ltb, ltb→lt, nltb→le}
 use mir.Val.{boolByte}
 use Rattle.float.specs.RootSteps.{Rooted}
 use Rattle.float.proofs.Squares.{Guess, guess, square-pred}
-use Rattle.float.proofs.root.extend.Statement.{statement}
-use Rattle.float.proofs.root.extend.Tie as tie
+use Rattle.float.proofs.root.extend_root.Statement.{statement}
+use Rattle.float.proofs.root.extend_root.Tie as tie
 
-at : (c : tie.Start) → Guess (c .args .s) (c .args .l) (c .args .l * 0x400_0000 / (c .args .s * 2)) (c .args .l * 0x400_0000 % (c .args .s * 2))
-at c = guess (c .args .s) (c .args .l) (c .pre .0) (c .pre .1 .1)
+at : (c : tie.Start) → Guess (c .args .root) (c .args .rest) (c .args .rest * 0x400_0000 / (c .args .root * 2)) (c .args .rest * 0x400_0000 % (c .args .root * 2))
+at c = guess (c .args .root) (c .args .rest) (c .pre .0) (c .pre .1 .1)
 
 exact : (s l a u : ℕ) → Guess s l a u → a * a ≤ u * 0x400_0000 → Rooted ((s * s + l) * 2 ^ 52) (s * 0x400_0000 + a) (u * 0x400_0000 - a * a)
 exact s l a u g h = record { whole = omega arith; left = omega arith }
@@ -61,11 +61,11 @@ corrected s l a u p k g = go (ltb (u * 0x400_0000) (a * a)) (ltb→lt (u * 0x400
         }
 
 fixed : (c : tie.Start)
-    → Corrected ((c .args .s * c .args .s + c .args .l) * 2 ^ 52) (c .args .s * 0x400_0000 + c .args .l * 0x400_0000 / (c .args .s * 2))
-    (c .args .l * 0x400_0000 % (c .args .s * 2) * 0x400_0000)
-    (c .args .l * 0x400_0000 / (c .args .s * 2) * (c .args .l * 0x400_0000 / (c .args .s * 2)))
-    (boolByte (ltb (c .args .l * 0x400_0000 % (c .args .s * 2) * 0x400_0000) (c .args .l * 0x400_0000 / (c .args .s * 2) * (c .args .l * 0x400_0000 / (c .args .s * 2)))))
-fixed c = corrected (c .args .s) (c .args .l) _ _ (c .pre .0) (c .pre .1 .0) (at c)
+    → Corrected ((c .args .root * c .args .root + c .args .rest) * 2 ^ 52) (c .args .root * 0x400_0000 + c .args .rest * 0x400_0000 / (c .args .root * 2))
+    (c .args .rest * 0x400_0000 % (c .args .root * 2) * 0x400_0000)
+    (c .args .rest * 0x400_0000 / (c .args .root * 2) * (c .args .rest * 0x400_0000 / (c .args .root * 2)))
+    (boolByte (ltb (c .args .rest * 0x400_0000 % (c .args .root * 2) * 0x400_0000) (c .args .rest * 0x400_0000 / (c .args .root * 2) * (c .args .rest * 0x400_0000 / (c .args .root * 2)))))
+fixed c = corrected (c .args .root) (c .args .rest) _ _ (c .pre .0) (c .pre .1 .0) (at c)
 
 mul-n : tie.Need-mul-n
 mul-n c = search needs
@@ -115,5 +115,5 @@ sub-t16 c = fixed c .enough
 returns : tie.Need-returns
 returns c = fixed c .rooted
 
-pub extend-spec : {M : Type 1} → statement M
-extend-spec = tie.close (tie.spec mul-n mul-d div-a rem-v mul-v mul-w mul-q add-q cast-under sub-t10 mul-t12 sub-t13 mul-t14 add-t15 sub-t16 returns)
+pub extend-root-spec : {M : Type 1} → statement M
+extend-root-spec = tie.close (tie.spec mul-n mul-d div-a rem-v mul-v mul-w mul-q add-q cast-under sub-t10 mul-t12 sub-t13 mul-t14 add-t15 sub-t16 returns)

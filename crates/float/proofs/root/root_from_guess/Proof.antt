@@ -1,12 +1,12 @@
--- `float::root::root_by` meets its contract. Assumes nothing.
+-- `float::root::root_from_guess` meets its contract. Assumes nothing.
 use Prim.Native.Nat.{ℕ, _-_, _*_, _<_}
 use native.Mathlib.Nat.{le-of-lt, mul-le-mul}
 use native.Mathlib.Omega.{arith}
 use borrow.Author.Needs.{needs}
 use Rattle.float.specs.RootSteps.{Rooted}
 use Rattle.float.proofs.Squares.{square-pred}
-use Rattle.float.proofs.root.root_by.Statement.{statement}
-use Rattle.float.proofs.root.root_by.Tie as tie
+use Rattle.float.proofs.root.root_from_guess.Statement.{statement}
+use Rattle.float.proofs.root.root_from_guess.Tie as tie
 
 -- one less than a guess that is too large
 one-less : (h c : ℕ) → h < c * c → c * c - h < c * 2 → Rooted h (c - 1) (c * 2 - 1 - (c * c - h))
@@ -51,14 +51,14 @@ sub-t16 c = search needs
 returns-3 : tie.Need-returns-3
 returns-3 c = one-less _ _ (c .before .if2 .left) (c .if5 .taken)
 
-root-requires : tie.Need-root-requires
-root-requires c κs = search needs
+root-by-digits-requires : tie.Need-root-by-digits-requires
+root-by-digits-requires c κs = search needs
 
 returns-4 : tie.Need-returns-4
 returns-4 c = search needs
 
-pub root-by-spec : {M : Type 1} → statement M
-root-by-spec =
+pub root-from-guess-spec : {M : Type 1} → statement M
+root-from-guess-spec =
     tie.close
     (tie.spec
     mul-s
@@ -74,5 +74,5 @@ root-by-spec =
     sub-t15
     sub-t16
     returns-3
-    root-requires
+    root-by-digits-requires
     returns-4)

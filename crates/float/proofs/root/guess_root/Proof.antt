@@ -1,9 +1,9 @@
--- `float::root::guess` meets its contract. Assumes nothing.
+-- `float::root::guess_root` meets its contract. Assumes nothing.
 use native.Mathlib.Omega.{arith}
 use borrow.Author.Needs.{needs}
 use Rattle.float.proofs.Value.{no-nan-bits, lt-no-nan}
-use Rattle.float.proofs.root.guess.Statement.{statement}
-use Rattle.float.proofs.root.guess.Tie as tie
+use Rattle.float.proofs.root.guess_root.Statement.{statement}
+use Rattle.float.proofs.root.guess_root.Tie as tie
 
 mul-i : tie.Need-mul-i
 mul-i c = search needs
@@ -32,8 +32,8 @@ returns c = search needs
 returns-2 : tie.Need-returns-2
 returns-2 c = search needs
 
-pub guess-spec : {M : Type 1} → statement M
-guess-spec =
+pub guess-root-spec : {M : Type 1} → statement M
+guess-root-spec =
     tie.close
     (tie.spec
     mul-i

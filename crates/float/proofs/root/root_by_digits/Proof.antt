@@ -1,4 +1,4 @@
--- `float::root::root` meets its contract. The invariant: q and r are the root of the digits of h passed, and what is left over. Assumes nothing.
+-- `float::root::root_by_digits` meets its contract. The invariant: q and r are the root of the digits of h passed, and what is left over. Assumes nothing.
 use Prim.Native.Nat.{ℕ, _+_, _-_, _/_, _%_, _^_, _≤_, _<_}
 use mathlib.Core.Path.{_≡_, refl, sym, ap, _∙_, subst}
 use native.Mathlib.Nat.{lt-of-le-of-lt, div-one}
@@ -6,8 +6,8 @@ use native.Mathlib.Omega.{arith}
 use lib.Pow.{shr-le, shr-shr}
 use Rattle.float.specs.RootSteps.{Rooted}
 use Rattle.float.proofs.Squares.{digit-one, digit-zero, root-small}
-use Rattle.float.proofs.root.root.Statement.{statement}
-use Rattle.float.proofs.root.root.Tie as tie
+use Rattle.float.proofs.root.root_by_digits.Statement.{statement}
+use Rattle.float.proofs.root.root_by_digits.Tie as tie
 
 abbrev Inv-loop : tie.InvT-loop
 Inv-loop h q₀ r₀ i₀ q r i = Rooted (h / 2 ^ i) q r × (i ≤ 54) × (i % 2 ≡ 0)
@@ -88,8 +88,8 @@ returns c =
     let z : a .loop .i ≡ 0 = omega arith in
     subst (λ (n : ℕ). Rooted n (a .loop .q) (a .loop .r)) (ap (λ (i : ℕ). a .before .args .h / 2 ^ i) z ∙ div-one (a .before .args .h)) (a .loop .inv .0)
 
-pub root-spec : {M : Type 1} → statement M
-root-spec =
+pub root-by-digits-spec : {M : Type 1} → statement M
+root-by-digits-spec =
     tie.close
     (tie.spec
     Inv-loop
