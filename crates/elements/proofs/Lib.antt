@@ -1,0 +1,5 @@
+-- The laws behind the proofs of `elements`, and its theorems.
+pub mod Compared
+pub mod Lists
+pub mod Keyed
+pub mod Laws

@@ -1,0 +1,85 @@
+-- Lists of key-downs and of elements: what each count and each store is over one list put behind another. Assumes nothing.
+use Prim.Native.Nat.{ℕ, zero, suc, _+_, _-_, _*_, _≤_, _<_}
+use native.Mathlib.Nat.{add-mul}
+use native.Mathlib.Omega.{arith}
+use mathlib.Core.Path.{_≡_, refl, sym, ap, _∙_}
+use mathlib.Core.Bool.{Bool, true, false, not, cond}
+use mathlib.Core.List.{List, [], _∷_, _++_, map}
+use lib.ListN.{length, getD, set, length-append, length-set}
+use lib.Ieee.{Float, nan}
+use Rattle.elements.specs.declared.element.KeyedElement.{KeyedElement}
+use Rattle.elements.specs.declared.keying.Found.{Found}
+use Rattle.elements.specs.Crossings.{KeyDown}
+use Rattle.elements.specs.Times.{elementOf, long}
+use Rattle.elements.specs.Found.{those, airtimeOf, listedOf, shortOf, counts, elementsOf, foundPlus, putElement, storedFrom}
+
+cond-append : (t : Bool) (k : KeyDown) (a b : List KeyDown) → cond t (k ∷ (a ++ b)) (a ++ b) ≡ cond t (k ∷ a) a ++ b
+cond-append true k a b = refl
+cond-append false k a b = refl
+
+pub those-append : (p : KeyDown → Bool) (a b : List KeyDown) → those p (a ++ b) ≡ those p a ++ those p b
+unfolding those
+those-append p [] b = refl
+those-append p (k ∷ a) b = rw (those-append p a b) (cond-append (p k) k (those p a) (those p b))
+
+pub airtime-append : (step : ℕ) (a b : List KeyDown) → airtimeOf step (a ++ b) ≡ airtimeOf step a + airtimeOf step b
+unfolding airtimeOf
+airtime-append step [] b = omega arith
+airtime-append step (k ∷ a) b = omega (arith, airtime-append step a b)
+
+-- counted in samples or in steps
+pub airtime-steps : (step : ℕ) (ks : List KeyDown) → airtimeOf step ks ≡ airtimeOf 1 ks * step
+unfolding airtimeOf
+airtime-steps step [] = omega arith
+airtime-steps step (k ∷ ks) = omega (arith, airtime-steps step ks, add-mul ((k .down - k .up) * 1) (airtimeOf 1 ks) step)
+
+cond-shorter : (t : Bool) (k : KeyDown) (a : List KeyDown) (n : ℕ) → length a ≤ n → length (cond t (k ∷ a) a) ≤ suc n
+cond-shorter true k a n h = omega arith
+cond-shorter false k a n h = omega arith
+
+pub those-shorter : (p : KeyDown → Bool) (ks : List KeyDown) → length (those p ks) ≤ length ks
+unfolding those
+those-shorter p [] = omega arith
+those-shorter p (k ∷ ks) = cond-shorter (p k) k (those p ks) (length ks) (those-shorter p ks)
+
+cond-less : (t : Bool) (step : ℕ) (k : KeyDown) (a : List KeyDown) (n : ℕ)
+    → airtimeOf step a ≤ n → airtimeOf step (cond t (k ∷ a) a) ≤ (k .down - k .up) * step + n
+unfolding airtimeOf
+cond-less true step k a n h = omega arith
+cond-less false step k a n h = omega arith
+
+pub those-less : (p : KeyDown → Bool) (step : ℕ) (ks : List KeyDown) → airtimeOf step (those p ks) ≤ airtimeOf step ks
+unfolding those airtimeOf
+those-less p step [] = omega arith
+those-less p step (k ∷ ks) = cond-less (p k) step k (those p ks) (airtimeOf step ks) (those-less p step ks)
+
+map-append : (f : KeyDown → KeyedElement) (a b : List KeyDown) → map f (a ++ b) ≡ map f a ++ map f b
+map-append f [] b = refl
+map-append f (k ∷ a) b = rw (map-append f a b)
+
+module _ (row : ℕ → Float) (thr : Float) (step : ℕ) (fs : Float) where
+  pub counts-append : (a b : List KeyDown) → counts row thr step fs (a ++ b) ≡ foundPlus (counts row thr step fs a) (counts row thr step fs b)
+  unfolding counts listedOf shortOf
+  counts-append a b =
+      let p = long row thr step fs in
+      let q : KeyDown → Bool = λ k. not (long row thr step fs k) in
+      rw (those-append p a b, those-append q a b, length-append a b, length-append (those p a) (those p b), length-append (those q a) (those q b), airtime-append step (those p a) (those p b))
+
+  pub elements-append : (a b : List KeyDown) → elementsOf row thr step fs (a ++ b) ≡ elementsOf row thr step fs a ++ elementsOf row thr step fs b
+  unfolding elementsOf listedOf
+  elements-append a b =
+      let p = long row thr step fs in
+      rw (those-append p a b) (map-append (elementOf row thr step) (those p a) (those p b))
+
+-- ---- the lent list
+pub length-stored : (l : List Float) (p : ℕ) (es : List KeyedElement) → length (storedFrom l p es) ≡ length l
+unfolding storedFrom
+length-stored l p [] = refl
+length-stored l p (e ∷ es) = length-stored (putElement l p e) (suc p) es ∙ simp length-set
+
+pub stored-append : (l : List Float) (p : ℕ) (a b : List KeyedElement) → storedFrom l p (a ++ b) ≡ storedFrom (storedFrom l p a) (p + length a) b
+unfolding storedFrom
+stored-append l p [] b = let here : p + 0 ≡ p = omega arith in rw here
+stored-append l p (e ∷ a) b =
+    let there : p + suc (length a) ≡ suc p + length a = omega arith in
+    rw there (stored-append (putElement l p e) (suc p) a b)

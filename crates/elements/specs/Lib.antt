@@ -1,0 +1,4 @@
+-- What the contracts of `elements` cite.
+pub mod Crossings
+pub mod Times
+pub mod Found
