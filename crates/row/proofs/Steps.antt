@@ -14,7 +14,7 @@ use lib.Ieee.Order.{le-of-values}
 use lib.Ieee.Positive.{num, den, positive, le→cross, between, mul-mono, le-trans-positive}
 use Rattle.float.specs.Ops.{_⊗_, _⊘_, of, one, eight, fraction, maxOf}
 use Rattle.float.specs.Whole.{halfUp, wholeBy, roundOf}
-use Rattle.float.proofs.Compared.{yes, no, own, power, over-power, unsigned-value}
+use Rattle.float.proofs.Compared.{yes, no, power, over-power, unsigned-value}
 use Rattle.float.proofs.Ordered.{quotient-mono, unsigned-mono}
 use Rattle.complex.specs.Every.{and-left, and-right}
 use Rattle.row.specs.Window.{rateOk, Rate, EDGE_WINDOW_S, stepOf}
@@ -49,8 +49,8 @@ from-one (fin false m e) p q = above m e q
   where
     above : (m : ℕ) (e : _) → lt (fin false m e) (fin false 1 (pos 0)) ≡ false → T (le (fin false 1 (pos 0)) (fin false m e))
     above m e q =
-        le-of-values (fin false 1 (pos 0)) (fin false m e) 1 1 (m * up e) (down e) (lit< tt) (down-pos e) (power 0) (own false m e)
-        (omega (arith, over-power (fin false m e) (m * up e) (down e) 0 (down-pos e) (own false m e) (no q)))
+        le-of-values (fin false 1 (pos 0)) (fin false m e) 1 1 (m * up e) (down e) (lit< tt) (down-pos e) (power 0) (refl, refl)
+        (omega (arith, over-power (fin false m e) (m * up e) (down e) 0 (down-pos e) (refl, refl) (no q)))
 
 pick-low : (x : Float) (n t : Bool) → isNan x ≡ n → lt x one ≡ t → 1 ≤ toUnsigned 64 (cond n one (cond t one x))
 pick-low x true t p q = le-of-eq (sym unsigned-one)
