@@ -100,7 +100,7 @@ impl<T: Bits> Lent<T> {
         for (i, (&a, &b)) in self.now().iter().zip(expected).enumerate() {
             if !a.same(b) {
                 let (a, b) = (a.wide(), b.wide());
-                return Err(format!("{}[{i}]: library {a:e}, oracle {b:e} ({a:?}, {b:?})", self.name));
+                return Err(format!("{}[{i}]: library {a:?}, oracle {b:?}", self.name));
             }
         }
         Ok(())

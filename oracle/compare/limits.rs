@@ -48,6 +48,32 @@ impl Asker {
         Ok(())
     }
 
+    /// Document 01's edge table: key-downs just long enough to be listed or fitted, and just too short.
+    pub fn edge_table(&mut self) -> Compared {
+        for (n, lo, hi) in
+            [(300, 100, 200), (107, 40, 55), (107, 40, 54), (300, 100, 161), (300, 100, 160), (3_000, 1_500, 1_600)]
+        {
+            let iq = real(n, |k| if (lo..hi).contains(&k) { 1.0 } else { 0.0 });
+            self.on_own(Recording { what: format!("ones from {lo} to {hi}"), fs: 3_000.0, iq, hint_hz: 0.0 })?;
+        }
+        Ok(())
+    }
+
+    /// Rows whose rank (count − 1) × 0.98 lies halfway between two whole numbers.
+    pub fn ranks(&mut self) -> Compared {
+        for count in [26, 76, 126, 176, 226, 276] {
+            for k in 1..=4 {
+                let (fs, n) = ((3_000 * k) as f64, k * (count + 7));
+                let on = (n / 5, n * 3 / 4);
+                let level =
+                    |r: &mut Random, k| if (on.0..on.1).contains(&k) { r.between(0.7, 1.3) as f32 } else { 0.0 };
+                let iq = (0..n).flat_map(|k| [level(&mut self.random, k), 0.0]).collect();
+                self.on_own(Recording { what: format!("a row of {count}"), fs, iq, hint_hz: 0.0 })?;
+            }
+        }
+        Ok(())
+    }
+
     /// Each question with no alone, and each two of them at once.
     pub fn questions(&mut self) -> Compared {
         let fs = 3_000.0;

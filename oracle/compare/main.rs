@@ -17,7 +17,8 @@ mod tally;
 
 use ask::{Asker, Compared, Difference};
 use oracle::random::Random;
-use scene::Scene;
+use scene::{Recording, Scene};
+use std::panic::{catch_unwind, AssertUnwindSafe};
 use std::process::ExitCode;
 use std::time::{Duration, Instant};
 
@@ -76,46 +77,61 @@ fn main() -> ExitCode {
 fn compare(asker: &mut Asker, options: &Options) -> (u64, Option<(String, Difference)>) {
     let end = Instant::now() + Duration::from_secs(options.seconds);
     let seed = options.seed;
-    let limits: [(&str, fn(&mut Asker) -> Compared); 6] = [
+    let limits: [(&str, fn(&mut Asker) -> Compared); 8] = [
         ("special numbers", Asker::special_numbers),
         ("hypotheses at their limits", |a| a.hypotheses(4_000)),
         ("n around every window", Asker::windows),
         ("rates around every change of step", Asker::changes_of_step),
+        ("edge table", Asker::edge_table),
+        ("ranks halfway", Asker::ranks),
         ("questions at the door", Asker::questions),
         ("2^20 samples", Asker::longest),
     ];
     let most = if options.seconds < LONG_RUN { limits.len() - 1 } else { limits.len() };
     for (what, limit) in &limits[..most] {
         asker.random = Random::new(seed);
-        if let Err(difference) = limit(asker) {
+        if let Err(difference) = not_stopping(|| limit(asker)) {
             return (0, Some((format!("seed {seed}, {what}"), difference)));
         }
     }
     let mut cases = 0;
     while cases == 0 || Instant::now() < end {
-        let (what, compared) = case(asker, seed.wrapping_add(cases));
-        if let Err(difference) = compared {
-            return (cases, Some((format!("seed {} ({what})", seed.wrapping_add(cases)), difference)));
+        let seed = seed.wrapping_add(cases);
+        let mut what = String::new();
+        if let Err(difference) = not_stopping(|| case(asker, seed, &mut what)) {
+            return (cases, Some((format!("seed {seed}, {what}"), difference)));
         }
         cases += 1;
     }
     (cases, None)
 }
 
-/// All calls on one recording, then on what the door refuses of it; and some numbers.
-fn case(asker: &mut Asker, seed: u64) -> (String, Compared) {
+/// A comparison that stops with a panic counts as a difference, so that its seed is named.
+fn not_stopping(compared: impl FnOnce() -> Compared) -> Compared {
+    catch_unwind(AssertUnwindSafe(compared)).unwrap_or_else(|_| {
+        let what = "the comparison stopped, as said above".into();
+        Err(Difference { call: "the oracle's", what })
+    })
+}
+
+/// All calls on one recording, then on what the door refuses of it; and some numbers. `what` says what was compared last.
+fn case(asker: &mut Asker, seed: u64, what: &mut String) -> Compared {
     let mut r = Random::new(seed);
     let recording = recordings::recording(&mut r);
+    *what = described(&recording);
     let given = given::estimate(&recording, &mut r);
     let admitted = Scene::new(recording, given, &mut r);
     let refused = [noes::refused(&admitted, &mut r), noes::refused(&admitted, &mut r)];
     asker.random = r;
     for scene in [&admitted, &refused[0], &refused[1]] {
-        if let Err(difference) = asker.all(scene) {
-            let rec = &scene.recording;
-            let what = format!("{}, fs {:?}, {} floats, hint {:?}", rec.what, rec.fs, rec.iq.len(), rec.hint_hz);
-            return (what, Err(difference));
-        }
+        *what = described(&scene.recording);
+        asker.all(scene)?;
     }
-    ("numbers".into(), asker.numbers(200).and_then(|()| asker.hypotheses(20)))
+    *what = "numbers".into();
+    asker.numbers(200)?;
+    asker.hypotheses(20)
+}
+
+fn described(rec: &Recording) -> String {
+    format!("{}, fs {:?}, {} floats, hint {:?}", rec.what, rec.fs, rec.iq.len(), rec.hint_hz)
 }

@@ -79,9 +79,12 @@ fn wrong_given(s: &mut Scene, r: &mut Random) {
     let wrong = r.pick(&[LARGEST.next_up(), -LARGEST.next_up(), f64::NAN, f64::INFINITY, f64::NEG_INFINITY, f64::MAX]);
     match r.whole(0, 6) {
         0 => {
-            // Beyond the list, with places enough for the fits. The largest count has no such list.
+            // Beyond the list, with places enough for the fits; or beyond any list.
             g.element_count = g.elements.len() / ELEMENT + 1 + r.whole(0, 3);
             s.given_fits_len = g.element_count * FIT;
+            if r.chance(0.2) {
+                g.element_count = r.pick(&[usize::MAX, usize::MAX / ELEMENT + 1, usize::MAX / FIT + 1]);
+            }
         }
         1 => g.fit_count = r.pick(&[g.fits.len() / FIT + 1, usize::MAX, usize::MAX / FIT + 1]),
         2 => {

@@ -67,9 +67,11 @@ fn neighbours(r: &mut Random) -> Recording {
     let n = (r.between(6.0, 10.0) * fs) as usize;
     let hz = r.between(-500.0, 500.0);
     let offset = r.pick(&[-1.0, 1.0]) * r.between(15.0, 145.0);
-    let strong = Sender { hz, amplitude: 1.0, unit_s: r.between(0.04, 0.06) };
-    let weak = Sender { hz: hz + offset, amplitude: r.between(0.1, 0.4), unit_s: r.between(0.06, 0.1) };
-    let iq = senders(n, fs, &[strong, weak], r.pick(&[0.0, 0.001]), r);
+    // The largest and the smallest keep both senders just inside of what an f32 holds.
+    let scale = r.pick(&[1.0, 1.0, 1.0, 2.3e38, 1e-38]);
+    let strong = Sender { hz, amplitude: scale, unit_s: r.between(0.04, 0.06) };
+    let weak = Sender { hz: hz + offset, amplitude: scale * r.between(0.1, 0.4), unit_s: r.between(0.06, 0.1) };
+    let iq = senders(n, fs, &[strong, weak], scale * r.pick(&[0.0, 0.001]), r);
     Recording { what: "neighbours".into(), fs, iq, hint_hz: hz + r.between(-0.5, 0.5) }
 }
 
