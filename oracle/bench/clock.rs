@@ -1,7 +1,5 @@
 //! Thread time, and the least of many repeats taken in turn.
 
-use std::hint::black_box;
-
 #[repr(C)]
 struct Timespec {
     seconds: i64,
@@ -33,7 +31,7 @@ pub fn least(rounds: usize, contenders: &mut [Contender]) -> Vec<f64> {
     for _ in 0..rounds {
         for (best, work) in least.iter_mut().zip(contenders.iter_mut()) {
             let began = now();
-            black_box(work());
+            work();
             *best = best.min(now() - began);
         }
     }

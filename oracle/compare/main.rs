@@ -73,11 +73,14 @@ fn main() -> ExitCode {
     }
 }
 
+/// What is compared in every run, by name.
+type Limit = (&'static str, fn(&mut Asker) -> Compared);
+
 /// The number of cases compared by chance, and the first difference with where it was found.
 fn compare(asker: &mut Asker, options: &Options) -> (u64, Option<(String, Difference)>) {
     let end = Instant::now() + Duration::from_secs(options.seconds);
     let seed = options.seed;
-    let limits: [(&str, fn(&mut Asker) -> Compared); 8] = [
+    let limits: [Limit; 8] = [
         ("special numbers", Asker::special_numbers),
         ("hypotheses at their limits", |a| a.hypotheses(4_000)),
         ("n around every window", Asker::windows),
