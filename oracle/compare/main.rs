@@ -1,7 +1,8 @@
 //! Compares every call of the linked library with the oracle, on the same inputs: figures, lists and buffers bit for bit
 //! (all NaNs one, both zeros one), refusals, and the numbers that must not be written.
 //!
-//! A case is made from its seed alone: `--seed S` starts at the case S and goes on with S + 1, S + 2, .. for N seconds.
+//! First come the limits, the same in every run but for the numbers drawn from S. Then for N seconds cases by seed: a case
+//! is made from its seed alone, the first from S, the next from S + 1, and so on.
 
 mod ask;
 mod given;
@@ -78,7 +79,6 @@ type Limit = (&'static str, fn(&mut Asker) -> Compared);
 
 /// The number of cases compared by chance, and the first difference with where it was found.
 fn compare(asker: &mut Asker, options: &Options) -> (u64, Option<(String, Difference)>) {
-    let end = Instant::now() + Duration::from_secs(options.seconds);
     let seed = options.seed;
     let limits: [Limit; 8] = [
         ("special numbers", Asker::special_numbers),
@@ -97,6 +97,7 @@ fn compare(asker: &mut Asker, options: &Options) -> (u64, Option<(String, Differ
             return (0, Some((format!("seed {seed}, {what}"), difference)));
         }
     }
+    let end = Instant::now() + Duration::from_secs(options.seconds);
     let mut cases = 0;
     while cases == 0 || Instant::now() < end {
         let seed = seed.wrapping_add(cases);
