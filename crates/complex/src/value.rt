@@ -80,7 +80,7 @@ impl Complex {
     pub fn arg(self) -> f64
         ensures { λ r. ⌜ r ≡ cArg self ⌝ }
     {
-        trig::argument(self.re, self.im)
+        trig::arg(self.re, self.im)
     }
 
     // Each part divided by a real number.

@@ -3,7 +3,6 @@ use Rattle.complex.proofs.value.Complex.from_polar.Statement.{statement
 use Rattle.complex.proofs.value.Complex.from_polar.Tie as tie
 use Rattle.complex.proofs.value.Complex.from_polar.Reads as reads
 use Rattle.complex.proofs.value.Complex.from_polar.Lts as lts
-use Rattle.trig.proofs.sin_cos.Reads as sin-cos-reads
 
 -- src/value.rt:25:13
 sin-cos-requires : tie.Need-sin-cos-requires

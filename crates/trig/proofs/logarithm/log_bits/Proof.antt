@@ -1,0 +1,47 @@
+-- `trig::logarithm::log_bits` meets its contract. Assumes nothing.
+use native.Mathlib.Omega.{arith}
+use Rattle.trig.proofs.Patterns.{field-no-nan}
+use borrow.Author.Needs.{needs}
+use Rattle.trig.proofs.logarithm.log_bits.Statement.{statement}
+use Rattle.trig.proofs.logarithm.log_bits.Tie as tie
+use Rattle.trig.proofs.logarithm.log_bits.Reads as reads
+use Rattle.trig.proofs.logarithm.log_bits.Lts as lts
+use Rattle.float.proofs.whole.exact.Reads as exact-reads
+use Rattle.trig.proofs.logarithm.log_parts.Reads as log-parts-reads
+
+sub-m : tie.Need-sub-m
+sub-m c = search needs
+
+mul-m : tie.Need-mul-m
+mul-m c = search needs
+
+add-m : tie.Need-add-m
+add-m c = search needs
+
+float-from-bits-m : tie.Need-float-from-bits-m
+float-from-bits-m c = field-no-nan _ (omega arith)
+
+add-exact : tie.Need-add-exact
+add-exact c = search needs
+
+exact-requires : tie.Need-exact-requires
+exact-requires c κs = search needs
+
+log-parts-requires : tie.Need-log-parts-requires
+log-parts-requires c κs = search needs
+
+returns : tie.Need-returns
+returns c = simp (c .log-parts .ensures, c .before .exact .ensures)
+
+pub log-bits-spec : {M : Type 1} → statement M
+log-bits-spec =
+    tie.close
+    (tie.spec
+    sub-m
+    mul-m
+    add-m
+    float-from-bits-m
+    add-exact
+    exact-requires
+    log-parts-requires
+    returns)

@@ -1,0 +1,20 @@
+-- `trig::logarithm::log_parts` meets its contract. Assumes nothing.
+use lib.Ieee.{ofBits, ofInt}
+use Rattle.trig.specs.Constants.{LN-2, LN-10}
+use Rattle.trig.specs.Log.{logOf}
+use borrow.Author.Needs.{needs}
+use Rattle.trig.proofs.logarithm.log_parts.Statement.{statement}
+use Rattle.trig.proofs.logarithm.log_parts.Tie as tie
+use Rattle.trig.proofs.logarithm.log_parts.Reads as reads
+use Rattle.trig.proofs.logarithm.log_parts.Lts as lts
+use Rattle.trig.proofs.logarithm.sum.Reads as sum-reads
+
+sum-requires : tie.Need-sum-requires
+sum-requires c κs = search needs
+
+returns : tie.Need-returns
+unfolding logOf LN-2 LN-10 ofBits ofInt
+returns c = simp (c .sum .ensures)
+
+pub log-parts-spec : {M : Type 1} → statement M
+log-parts-spec = tie.close (tie.spec sum-requires returns)

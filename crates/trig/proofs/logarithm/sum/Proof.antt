@@ -1,0 +1,15 @@
+-- `trig::logarithm::sum` meets its contract. Assumes nothing.
+use mathlib.Core.Path.{refl}
+use lib.Ieee.{ofBits, ofInt}
+use Rattle.trig.specs.Log.{series}
+use Rattle.trig.proofs.logarithm.sum.Statement.{statement}
+use Rattle.trig.proofs.logarithm.sum.Tie as tie
+use Rattle.trig.proofs.logarithm.sum.Reads as reads
+use Rattle.trig.proofs.logarithm.sum.Lts as lts
+
+returns : tie.Need-returns
+unfolding series ofBits ofInt
+returns c = refl
+
+pub sum-spec : {M : Type 1} → statement M
+sum-spec = tie.close (tie.spec returns)
