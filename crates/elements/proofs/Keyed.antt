@@ -24,8 +24,30 @@ pub one-way : (row : ℕ → Float) (thr : Float) (i : ℕ) → upward row thr i
 unfolding upward downward
 one-way row thr i h = rw (apart (row (i - 1)) thr (and-left (lt (row (i - 1)) thr) (le thr (row i)) h))
 
+-- ---- what position j + 1 makes of what is pending and of the key-downs
+module _ (row : ℕ → Float) (thr : Float) (j : ℕ) where
+  pub pending-up : upward row thr (suc j) ≡ true → pending row thr (suc j) ≡ At (suc j)
+  unfolding pending
+  pending-up h = rw h
+
+  pub pending-down : upward row thr (suc j) ≡ false → downward row thr (suc j) ≡ true → pending row thr (suc j) ≡ Nothing
+  unfolding pending
+  pending-down h d = rw (h, d)
+
+  pub pending-same : upward row thr (suc j) ≡ false → downward row thr (suc j) ≡ false → pending row thr (suc j) ≡ pending row thr j
+  unfolding pending
+  pending-same h d = rw (h, d)
+
+  pub keys-down : downward row thr (suc j) ≡ true → keyDowns row thr (suc j) ≡ keyDowns row thr j ++ ended (pending row thr j) (suc j)
+  unfolding keyDowns
+  keys-down d = rw d
+
+  pub keys-same : downward row thr (suc j) ≡ false → keyDowns row thr (suc j) ≡ keyDowns row thr j
+  unfolding keyDowns
+  keys-same d = rw d (append-nil (keyDowns row thr j))
+
 -- ---- how many key-downs there are at most, and how long they are together: they lie one behind the other
-abbrev Held : Rising → ℕ → List KeyDown → Type 0
+abbrev pub Held : Rising → ℕ → List KeyDown → Type 0
 Held (At u) j ks = (1 ≤ u) × (u ≤ j) × (2 * length ks + 1 ≤ u) × (airtimeOf 1 ks ≤ u)
 Held Nothing j ks = (2 * length ks ≤ j) × (airtimeOf 1 ks ≤ j)
 
@@ -147,28 +169,6 @@ module _ (row : ℕ → Float) (thr : Float) (step : ℕ) (fs : Float) where
         let place : 0 + length (elementsOf row thr step fs ks) ≡ found .listed = listed-place ks ∙ ap (λ f. f .listed) (sym so-far) in
         rw (elements-append row thr step fs ks new, stored-append l 0 (elementsOf row thr step fs ks) (elementsOf row thr step fs new), place, ← c) e
 
-  -- ---- what position j + 1 makes of what is pending and of the key-downs
-  module _ (j : ℕ) where
-    pending-up : upward row thr (suc j) ≡ true → pending row thr (suc j) ≡ At (suc j)
-    unfolding pending
-    pending-up h = rw h
-
-    pending-down : upward row thr (suc j) ≡ false → downward row thr (suc j) ≡ true → pending row thr (suc j) ≡ Nothing
-    unfolding pending
-    pending-down h d = rw (h, d)
-
-    pending-same : upward row thr (suc j) ≡ false → downward row thr (suc j) ≡ false → pending row thr (suc j) ≡ pending row thr j
-    unfolding pending
-    pending-same h d = rw (h, d)
-
-    keys-down : downward row thr (suc j) ≡ true → keyDowns row thr (suc j) ≡ keyDowns row thr j ++ ended (pending row thr j) (suc j)
-    unfolding keyDowns
-    keys-down d = rw d
-
-    keys-same : downward row thr (suc j) ≡ false → keyDowns row thr (suc j) ≡ keyDowns row thr j
-    unfolding keyDowns
-    keys-same d = rw d (append-nil (keyDowns row thr j))
-
   -- ---- the loop, where the positions 1 to j are behind it
   pub record Walked (l : List Float) (j : ℕ) (rising : Rising) (found : Found) (cur : List Float) : Type 0 where
     pub waiting : rising ≡ pending row thr j
@@ -184,14 +184,14 @@ module _ (row : ℕ → Float) (thr : Float) (step : ℕ) (fs : Float) where
       up-next : upward row thr (suc j) ≡ true → Walked l (suc j) (At (suc j)) found cur
       unfolding foundTo elementsTo
       up-next h =
-          let same = keys-same j (one-way row thr (suc j) h) in
-          record { waiting = sym (pending-up j h); counted = rw same (w .counted); written = rw same (w .written) }
+          let same = keys-same row thr j (one-way row thr (suc j) h) in
+          record { waiting = sym (pending-up row thr j h); counted = rw same (w .counted); written = rw same (w .written) }
 
       none-next : upward row thr (suc j) ≡ false → downward row thr (suc j) ≡ false → Walked l (suc j) rising found cur
       unfolding foundTo elementsTo
       none-next h d =
-          let same = keys-same j d in
-          record { waiting = w .waiting ∙ sym (pending-same j h d); counted = rw same (w .counted); written = rw same (w .written) }
+          let same = keys-same row thr j d in
+          record { waiting = w .waiting ∙ sym (pending-same row thr j h d); counted = rw same (w .counted); written = rw same (w .written) }
 
       down-next : (r : Found) (out : List Float) → upward row thr (suc j) ≡ false → downward row thr (suc j) ≡ true
           → (r ≡ foundPlus found (counts row thr step fs (ended rising (suc j))))
@@ -199,11 +199,11 @@ module _ (row : ℕ → Float) (thr : Float) (step : ℕ) (fs : Float) where
           → Walked l (suc j) Nothing r out
       unfolding foundTo elementsTo
       down-next r out h d e =
-          let more = keys-down j d in
+          let more = keys-down row thr j d in
           let new = ended (pending row thr j) (suc j) in
           let e' = rw (w .waiting) at e in
           record {
-            waiting = sym (pending-down j h d);
+            waiting = sym (pending-down row thr j h d);
             counted = rw more (counts-more (keyDowns row thr j) new found (w .counted) r (e' .0));
             written = rw more (stored-more (keyDowns row thr j) new found (w .counted) l cur out (w .written) (e' .1));
           }

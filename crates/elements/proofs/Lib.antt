@@ -2,4 +2,5 @@
 pub mod Compared
 pub mod Lists
 pub mod Keyed
+pub mod KeyDowns
 pub mod Laws

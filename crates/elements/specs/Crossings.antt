@@ -1,5 +1,6 @@
 -- Crossings and key-downs of a row of amplitudes (01, part 3). A row is a function of the position. Definitions only.
-use Prim.Native.Nat.{ℕ, zero, suc, _-_}
+use Prim.Native.Nat.{ℕ, zero, suc, _-_, _≤_, _<_}
+use mathlib.Core.Path.{_≡_}
 use mathlib.Core.Bool.{Bool, true, false, _&&_, cond}
 use mathlib.Core.List.{List, [], _∷_, _++_}
 use lib.Ieee.{Float, lt, le}
@@ -43,3 +44,11 @@ keyDowns row thr zero = []
 keyDowns row thr (suc j) =
     let here = ended (pending row thr j) (suc j) in
     keyDowns row thr j ++ cond (downward row thr (suc j)) here []
+
+-- The same as a property of a pair of positions up to `last`: `key-down-is` of the proofs says that `keyDowns` has the pairs with it and no others.
+pub record IsKeyDown (row : ℕ → Float) (thr : Float) (last : ℕ) (k : KeyDown) : Type 0 where
+  pub rises : upward row thr (k .up) ≡ true
+  pub falls : downward row thr (k .down) ≡ true
+  pub later : k .up < k .down
+  pub within : k .down ≤ last
+  pub next : (i : ℕ) → k .up < i → i < k .down → downward row thr i ≡ false

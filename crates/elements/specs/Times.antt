@@ -8,7 +8,7 @@ use Rattle.elements.specs.Crossings.{KeyDown}
 
 -- amplitude i covers the window = 8 × step samples from i × step on: their centre
 abbrev pub centre : ℕ → ℕ → Float
-centre step i = of (i * step) ⊕ (of (step * 8) ⊖ one) ⊘ two
+centre step i = of (i * step) ⊕ (of (8 * step) ⊖ one) ⊘ two
 
 -- the time of a crossing at i, on the line from amplitude i − 1 to amplitude i
 unfoldable pub crossedAt : (ℕ → Float) → Float → ℕ → ℕ → Float

@@ -85,7 +85,7 @@ fn crossing(row: &[f64], thr: f64, step: usize, i: usize) -> f64
 {
     let a0 = row[i - 1];
     let a1 = row[i];
-    let centre = exact((i - 1) * step) + (exact(step * 8) - 1.0) / 2.0;
+    let centre = exact((i - 1) * step) + (exact(8 * step) - 1.0) / 2.0;
     centre + (thr - a0) / (a1 - a0) * exact(step)
 }
 
