@@ -9,7 +9,7 @@ use Rattle.trig.specs.Trig.{sinOf, cosOf}
 use Rattle.complex.specs.declared.value.Complex.{Complex}
 use Rattle.complex.specs.Cx.{cNew, cMul, cConj, cDiv}
 use Rattle.complex.specs.Rows.{zAt, cSum}
-use Rattle.row.specs.Tau.{TAU}
+use Rattle.trig.specs.Constants.{TAU}
 
 -- `rotor`: (cyc × k).rem_euclid(1) × TAU, its cosine and its sine
 unfoldable pub rotorOf : Float → ℕ → Complex

@@ -1,6 +1,5 @@
 -- What the contracts of `row` cite.
 pub mod Window
 pub mod Samples
-pub mod Tau
 pub mod Blocks
 pub mod Amplitudes

@@ -6,7 +6,7 @@ use native.Mathlib.Nat.{le-trans, le-of-eq, le-of-lt, lt-of-not-le, not-le-of-lt
 use native.Mathlib.Omega.{arith}
 use mathlib.Core.Bool.{Bool, true, false, not, _&&_, cond, true≢false}
 use lib.IntN.{ℤ, pos, negsuc, negℤ, _+ℤ_}
-use lib.Dec.{T, ltb, ltb→lt, lt→ltb, nltb→le, lit<, lit≤}
+use lib.Dec.{T, ltb, ltb→lt, lt→ltb, nltb→le, le→leb, lit<, lit≤}
 use lib.Pow.{pow-pos, pow-mono}
 use lib.Ieee.{Float, nan, inf, fin, Format, binary64, up, down, size, unlike, round, sum, add, sub, mul, neg, lt, le, isNan, ofInt, inFloat, toBits, toSigned, fits}
 use lib.Ieee.Digits.{size-lt, size-le}
@@ -19,7 +19,6 @@ use Rattle.float.specs.Whole.{halfUp, roundOf, wholeBy}
 use Rattle.float.proofs.Exactly.{round-value, neg-round}
 use Rattle.float.proofs.Compared.{yes, cross→lt, le→value}
 use Rattle.float.proofs.Cuts.{round-at-one, closest-bounds, revalue}
-use Rattle.float.proofs.Wholes.{in-float}
 use Rattle.trig.specs.Trig.{within}
 use Rattle.trig.proofs.Patterns.{size-gt, pattern-is}
 use Rattle.trig.proofs.Fractions.{add-at, sub-at, mul-at, shape, under}
@@ -280,6 +279,10 @@ pattern w B v l h =
 signed-zero : toSigned 63 (round binary64 true 0 1) ≡ pos 0
 unfolding toSigned round
 signed-zero = refl
+
+pub in-float : (n : ℕ) → n ≤ 2 ^ 53 → T (inFloat binary64 (pos n))
+unfolding inFloat
+in-float n h = le→leb n (2 ^ 53) h
 
 signed-pos : (n : ℕ) → n ≤ 8192 → toSigned 63 (round binary64 false n 1) ≡ pos n
 unfolding ofInt

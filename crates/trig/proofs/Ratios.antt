@@ -16,7 +16,7 @@ use lib.Ieee.Order.{round-mono}
 use Rattle.float.specs.Ops.{of, absOf, _⊗_, _⊘_}
 use Rattle.float.specs.Whole.{halfUp, roundOf, wholeBy}
 use Rattle.float.proofs.Compared.{le→value}
-use Rattle.float.proofs.Wholes.{in-float}
+use Rattle.trig.proofs.Marks.{in-float}
 use Rattle.trig.specs.Arg.{ratioOf, stepOf}
 use Rattle.trig.proofs.Fractions.{mul-at, shape}
 
