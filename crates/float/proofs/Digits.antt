@@ -1,6 +1,7 @@
--- Powers of two and numbers of digits: `size-gt` (a number of 2 ^ j at least has more than j digits), `size-exact`, `pow-le→le`, `pow-lt→lt`, `pow-split`. And what `compare` says (`cmp`). Assumes nothing.
-use mathlib.Core.Path.{_≡_, sym, ap, _∙_, subst}
-use Prim.Native.Nat.{ℕ, suc, _*_, _+_, _^_, _≤_, _<_, compare, Ordering, Ordering·lt, Ordering·eq, Ordering·gt}
+-- Powers of two and numbers of digits: `size-gt` (a number of 2 ^ j at least has more than j digits), `size-exact`, `pow-le→le`, `pow-lt→lt`, `pow-split`, `halves`. And what `compare` says (`cmp`). Assumes nothing.
+use mathlib.Core.Path.{_≡_, refl, sym, ap, _∙_, subst}
+use Prim.Native.Nat.{ℕ, zero, suc, _+_, _-_, _*_, _/_, _%_, _^_, _≤_, _<_, compare, Ordering, Ordering·lt, Ordering·eq, Ordering·gt}
+use native.Mathlib.Omega.{arith}
 use native.Mathlib.Nat.{le-of-suc-le-suc, le-antisymm, lt-irrefl, lt-of-lt-of-le, lt-of-le-of-lt, lt-of-not-le, not-le-of-lt, mul-assoc}
 use mathlib.Core.Bool.{not}
 use lib.Dec.{T, isLe, isEq, eqb, leb→le, nleb→lt, eqb→eq, eqb-refl}
@@ -23,6 +24,27 @@ size-gt n j h = pow-lt→lt j (size n) (lt-of-le-of-lt h (size-lt n))
 
 pub size-exact : (a n : ℕ) → 2 ^ a ≤ n → n < 2 ^ suc a → size n ≡ suc a
 size-exact a n lo hi = le-antisymm (size-le n (suc a) hi) (size-gt n a lo)
+
+-- ---- a power of two as a power, an odd 2 if there is one, and a square
+
+pub halves : (p e : ℕ) → p ≤ e → 2 ^ e ≡ (1 + (e - p) % 2) * 2 ^ p * (2 ^ ((e - p) / 2) * 2 ^ ((e - p) / 2))
+halves p e h =
+    let k = (e - p) / 2 in
+    let o = (e - p) % 2 in
+    let s : e ≡ o + p + (k + k) = omega arith in
+    ap (λ (i : ℕ). 2 ^ i) s
+    ∙ pow-add 2 (o + p) (k + k)
+    ∙ ap (λ (x : ℕ). x * 2 ^ (k + k)) (pow-add 2 o p)
+    ∙ ap (λ (x : ℕ). 2 ^ o * 2 ^ p * x) (pow-add 2 k k)
+    ∙ ap (λ (x : ℕ). x * 2 ^ p * (2 ^ k * 2 ^ k)) (bit o (omega arith))
+  where
+    bit : (o : ℕ) → o < 2 → 2 ^ o ≡ 1 + o
+    bit zero h = refl
+    bit (suc zero) h = refl
+    bit (suc (suc o)) h = absurd (big o h)
+      where
+        big : (o : ℕ) → suc (suc o) < 2 → ⊥
+        big o h = omega arith
 
 -- ---- what `compare` says
 abbrev pub Cmp : Ordering → ℕ → ℕ → Type 0

@@ -1,31 +1,26 @@
 -- What `sqrtOf` comes to, in either format, at a value above zero: it is a value of the format, and no other is as near to the root. Assumes nothing.
-use mathlib.Core.Path.{_≡_, refl, sym, ap, _∙_, subst}
+use mathlib.Core.Path.{_≡_, sym, ap, _∙_, subst}
 use mathlib.Core.Logic.{_⊎_, inl, inr}
-use mathlib.Core.Bool.{false, _&&_}
+use mathlib.Core.Bool.{false}
 use Prim.Native.Nat.{ℕ, zero, suc, _+_, _-_, _*_, _/_, _%_, _^_, _≤_, _<_}
-use native.Mathlib.Nat.{le-refl, le-antisymm, le-trans, le-of-lt, le-of-eq, le-of-suc-le-suc, lt-of-not-le, lt-irrefl, lt-of-lt-of-le, lt-of-le-of-lt, eq-or-lt-of-le, zero-mul, one-mul, mul-one, mul-comm, mul-assoc, mul-mul-mul-comm, mul-le-mul, mul-le-mul-right, mul-lt-mul-of-pos-right, lt-of-mul-lt-mul-right, eq-of-mul-eq-mul-right, mul-pos, zero-lt-suc, add-mul, pow-suc}
+use native.Mathlib.Nat.{mul-right-comm, le-refl, le-antisymm, le-trans, le-of-lt, le-of-eq, le-of-suc-le-suc, lt-of-not-le, lt-irrefl, lt-of-lt-of-le, lt-of-le-of-lt, eq-or-lt-of-le, zero-mul, one-mul, mul-comm, mul-assoc, mul-mul-mul-comm, mul-le-mul, mul-le-mul-right, mul-lt-mul-of-pos-right, lt-of-mul-lt-mul-right, eq-of-mul-eq-mul-right, mul-pos, zero-lt-suc, add-mul, pow-suc}
 use native.Mathlib.Decide.{decLe}
 use native.Mathlib.Omega.{arith}
-use lib.IntN.{pos, negsuc}
-use lib.Dec.{T, leb, ltb, eqb, lit≤, ltb→lt, leb→le}
+use lib.Dec.{T, ltb, lit≤}
 use lib.Pow.{pow-pos, pow-mono, pow-lt, pow-add, shl-lt}
 use lib.Ieee.{Float, nan, inf, fin, Format, binary32, binary64, prec, emax, low, up, down, size, units, odd, fits}
 use lib.Ieee.Digits.{size-lt, size-le, size-reaches}
-use lib.Ieee.Fits.{two, and-l, and-r, down-pos, odd-fits, cond-fits, inf-fits}
+use lib.Ieee.Fits.{two, down-pos, odd-fits, cond-fits, inf-fits}
 use lib.Ieee.Exact.{HasValue, units-val}
 use Rattle.float.specs.Sqrt.{isqrt, rootOf, sqrtOf, Nearest}
 use Rattle.float.specs.RootSteps.{NearRoot, Rooted}
+use Rattle.float.proofs.Digits.{pow-lt→lt, halves}
+use Rattle.float.proofs.Exactly.{fits-parts, exponent}
 use Rattle.float.proofs.Squares.{square-lt-back, square-next, near-down, near-up, near-under}
 use Rattle.float.proofs.Roots.{IsRoot, isqrt-is, root-at}
 use Rattle.float.proofs.Value.{sqrt-of-value}
 
 -- ---- a value of the format is a number of its digits, and zeros
-
-pow-le-back : (a l : ℕ) → 2 ^ a ≤ 2 ^ l → a ≤ l
-pow-le-back a l h = le-of-suc-le-suc (lt-of-not-le (λ (g : suc l ≤ a). lt-irrefl (2 ^ l) (lt-of-lt-of-le (pow-lt' l) (le-trans (pow-mono g) h))))
-  where
-    pow-lt' : (l : ℕ) → 2 ^ l < 2 ^ suc l
-    pow-lt' l = omega (arith, pow-suc 2 l, pow-pos l)
 
 record Digits (p a : ℕ) : Type 0 where
   m : ℕ
@@ -33,64 +28,22 @@ record Digits (p a : ℕ) : Type 0 where
   is : a ≡ m * 2 ^ j
   few : m < 2 ^ p
 
-none : (a d x : ℕ) → 0 < d → x ≡ 0 → x ≡ a * d → a ≡ 0
-none zero d x h e g = refl
-none (suc a) d x h e g = absurd (lt-irrefl 0 (subst (λ (y : ℕ). 0 < y) (sym g ∙ e) (mul-pos (zero-lt-suc a) h)))
-
-down-by : (m a l i : ℕ) → suc i ≤ l → m * 1 * 2 ^ l ≡ a * 2 ^ suc i → a ≡ m * 2 ^ (l - suc i)
-down-by m a l i h v =
-    let s : l ≡ l - suc i + suc i = omega arith in
-    sym (eq-of-mul-eq-mul-right (2 ^ suc i) (pow-pos (suc i)) (m * 2 ^ (l - suc i)) a
-    (mul-assoc m (2 ^ (l - suc i)) (2 ^ suc i) ∙ ap (λ (x : ℕ). m * x) (sym (pow-add 2 (l - suc i) (suc i)) ∙ ap (λ (x : ℕ). 2 ^ x) (sym s)) ∙ ap (λ (x : ℕ). x * 2 ^ l) (sym (mul-one m)) ∙ v))
-
 digits : (f : Format) (y : Float) (a : ℕ) → T (fits f y) → HasValue y false a (2 ^ low f) → Digits (prec f) a
-unfolding fits
 digits f nan a h v = absurd v
 digits f (inf s) a h v = absurd v
-digits f (fin s zero e) a h v =
-    record { m = 0; j = 0; is = none a (down e) (zero * up e * 2 ^ low f) (down-pos e) (ap (λ (x : ℕ). x * 2 ^ low f) (zero-mul (up e)) ∙ zero-mul (2 ^ low f)) (v .1); few = pow-pos (prec f) }
-digits f (fin s (suc m) (pos i)) a h v =
-    let A = eqb (suc m % 2) 1 in
-    let B = ltb (suc m) (2 ^ prec f) in
-    let C = leb 1 (2 ^ low f) in
-    let D = ltb (suc m * 2 ^ i) (2 ^ suc (emax f) * 1) in
-    record {
-      m = suc m;
-      j = i + low f;
-      is = sym (mul-one a) ∙ sym (v .1) ∙ mul-assoc (suc m) (2 ^ i) (2 ^ low f) ∙ ap (λ (x : ℕ). suc m * x) (sym (pow-add 2 i (low f)));
-      few = ltb→lt (suc m) (2 ^ prec f) (and-r A B (and-l (A && B) C (and-l (A && B && C) D h)));
-    }
-digits f (fin s (suc m) (negsuc i)) a h v =
-    let A = eqb (suc m % 2) 1 in
-    let B = ltb (suc m) (2 ^ prec f) in
-    let C = leb (2 ^ suc i) (2 ^ low f) in
-    let D = ltb (suc m * 1) (2 ^ suc (emax f) * 2 ^ suc i) in
-    record {
-      m = suc m;
-      j = low f - suc i;
-      is = down-by (suc m) a (low f) i (pow-le-back (suc i) (low f) (leb→le (2 ^ suc i) (2 ^ low f) (and-r (A && B) C (and-l (A && B && C) D h)))) (v .1);
-      few = ltb→lt (suc m) (2 ^ prec f) (and-r A B (and-l (A && B) C (and-l (A && B && C) D h)));
-    }
+digits f (fin s m e) a h v =
+    let w = fits-parts f s m e h in
+    let x = exponent f m e (w .1) in
+    record { m = m; j = x .0; is = eq-of-mul-eq-mul-right (down e) (down-pos e) a (m * 2 ^ x .0) (sym (v .1) ∙ x .1); few = w .0 }
 
 -- it lies below 2 ^ (emax + 1)
 under-top : (f : Format) (y : Float) (a : ℕ) → T (fits f y) → HasValue y false a (2 ^ low f) → a < 2 ^ suc (emax f) * 2 ^ low f
-unfolding fits
 under-top f nan a h v = absurd v
 under-top f (inf s) a h v = absurd v
-under-top f (fin s zero e) a h v =
-    subst (λ (x : ℕ). x < 2 ^ suc (emax f) * 2 ^ low f) (sym (none a (down e) (zero * up e * 2 ^ low f) (down-pos e) (ap (λ (x : ℕ). x * 2 ^ low f) (zero-mul (up e)) ∙ zero-mul (2 ^ low f)) (v .1))) (mul-pos (pow-pos (suc (emax f))) (pow-pos (low f)))
-under-top f (fin s (suc m) e) a h v =
-    let A = eqb (suc m % 2) 1 in
-    let B = ltb (suc m) (2 ^ prec f) in
-    let C = leb (down e) (2 ^ low f) in
-    let D = ltb (suc m * up e) (2 ^ suc (emax f) * down e) in
-    let t : suc m * up e < 2 ^ suc (emax f) * down e = ltb→lt (suc m * up e) (2 ^ suc (emax f) * down e) (and-r (A && B && C) D h) in
+under-top f (fin s m e) a h v =
     lt-of-mul-lt-mul-right (down e)
     (subst (λ (x : ℕ). x < 2 ^ suc (emax f) * 2 ^ low f * down e) (v .1)
-    (subst (λ (x : ℕ). suc m * up e * 2 ^ low f < x) (swap (2 ^ suc (emax f)) (down e) (2 ^ low f)) (mul-lt-mul-of-pos-right t (pow-pos (low f)))))
-  where
-    swap : (a b c : ℕ) → a * b * c ≡ a * c * b
-    swap a b c = mul-assoc a b c ∙ ap (λ (x : ℕ). a * x) (mul-comm b c) ∙ sym (mul-assoc a c b)
+    (subst (λ (x : ℕ). m * up e * 2 ^ low f < x) (mul-right-comm (2 ^ suc (emax f)) (down e) (2 ^ low f)) (mul-lt-mul-of-pos-right (fits-parts f s m e h .2) (pow-pos (low f)))))
 
 -- ---- zeros after a number of at most p digits make it one of p digits
 
@@ -120,27 +73,6 @@ full p m h k =
         no : (m : ℕ) → 0 < m → m < 1 → ⊥
         no m h l = omega arith
     some (suc d) l = zero-lt-suc d
-
--- ---- a power of two as a power, an odd 2 if there is one, and a square
-
-halves : (p e : ℕ) → p ≤ e → 2 ^ e ≡ (1 + (e - p) % 2) * 2 ^ p * (2 ^ ((e - p) / 2) * 2 ^ ((e - p) / 2))
-halves p e h =
-    let k = (e - p) / 2 in
-    let o = (e - p) % 2 in
-    let s : e ≡ o + p + (k + k) = omega arith in
-    ap (λ (i : ℕ). 2 ^ i) s
-    ∙ pow-add 2 (o + p) (k + k)
-    ∙ ap (λ (x : ℕ). x * 2 ^ (k + k)) (pow-add 2 o p)
-    ∙ ap (λ (x : ℕ). 2 ^ o * 2 ^ p * x) (pow-add 2 k k)
-    ∙ ap (λ (x : ℕ). x * 2 ^ p * (2 ^ k * 2 ^ k)) (bit o (omega arith))
-  where
-    bit : (o : ℕ) → o < 2 → 2 ^ o ≡ 1 + o
-    bit zero h = refl
-    bit (suc zero) h = refl
-    bit (suc (suc o)) h = absurd (big o h)
-      where
-        big : (o : ℕ) → suc (suc o) < 2 → ⊥
-        big o h = omega arith
 
 -- ---- every number above 0 has a whole number nearest to its root
 
@@ -272,9 +204,6 @@ wide : (f : Format) → 2 ≤ suc (emax f)
 wide binary32 = lit≤ tt
 wide binary64 = lit≤ tt
 
-pow-lt-back : (i p : ℕ) → 2 ^ i < 2 ^ p → i < p
-pow-lt-back i p h = lt-of-not-le (λ (g : p ≤ i). lt-irrefl (2 ^ i) (lt-of-lt-of-le h (pow-mono g)))
-
 units-fit : (f : Format) (c k : ℕ) → c ≤ 2 ^ prec f → c * 2 ^ k < 2 ^ (low f + suc (emax f)) → T (fits f (units f false c k))
 unfolding units
 units-fit f c k h l =
@@ -323,7 +252,7 @@ sqrt-nearest f x a F A v =
     let n-ge : 2 ^ (p - 1 + (p - 1) + (k + k)) ≤ a * 2 ^ l =
     le-trans (le-of-eq (pow-add 2 (p - 1 + (p - 1)) (k + k) ∙ ap (λ (y : ℕ). y * 2 ^ (k + k)) (pow-add 2 (p - 1) (p - 1)) ∙ ap (λ (y : ℕ). 2 ^ (p - 1) * 2 ^ (p - 1) * y) (pow-add 2 k k)))
     (le-trans (mul-le-mul-right (2 ^ k * 2 ^ k) lo) (le-of-eq (sym n-is))) in
-    let exps : p - 1 + (p - 1) + (k + k) < suc (emax f) + l + l = pow-lt-back (p - 1 + (p - 1) + (k + k)) (suc (emax f) + l + l) (lt-of-le-of-lt n-ge n-lt) in
+    let exps : p - 1 + (p - 1) + (k + k) < suc (emax f) + l + l = pow-lt→lt (p - 1 + (p - 1) + (k + k)) (suc (emax f) + l + l) (lt-of-le-of-lt n-ge n-lt) in
     let in-range : c * 2 ^ k < 2 ^ (l + suc (emax f)) =
     lt-of-le-of-lt (le-trans (mul-le-mul-right (2 ^ k) c-le) (le-of-eq (sym (pow-add 2 p k)))) (pow-lt (below p k l (suc (emax f)) (wide f) exps)) in
     record {

@@ -7,7 +7,7 @@ use native.Mathlib.Omega.{arith}
 use borrow.Author.Tests.{lt-ltb, lt-leb, le-leb, ne-eqb}
 use lib.Dec.{T, ltb, eqb, lit≤, ltb→lt, nltb→le}
 use lib.Arith.{le→nltb}
-use lib.Pow.{pow-pos, pow-mono, pow-add, shl-lt}
+use lib.Pow.{pow-pos, pow-mono, shl-lt}
 use lib.Count.{trailingZeros, under}
 use lib.IntN.{ℤ}
 use lib.Ieee.{Float, nan, inf, fin, Format, binary64, low, up, down, minus, odd, units, ofFields, ofBits, nanBits, isNan, ne, lt}
@@ -17,6 +17,7 @@ use lib.Ieee.Compare.{nan-differs}
 use lib.Ieee.Exact.{HasValue, odd-sign}
 use Rattle.float.specs.Sqrt.{rootOf, sqrtOf}
 use Rattle.float.specs.RootSteps.{counted, NearRoot, Scaled}
+use Rattle.float.proofs.Digits.{halves}
 use Rattle.float.proofs.Squares.{square-lt-back, near-under}
 use Rattle.float.proofs.Roots.{root-at}
 
@@ -152,22 +153,7 @@ pub record Result (b m e c : ℕ) : Type 0 where
 
 -- 2 ^ e is 2 ^ 52, the odd 2 if there is one, and a square
 parts : (e : ℕ) → 52 ≤ e → 2 ^ e ≡ (1 + e % 2) * 2 ^ 52 * (2 ^ ((e - 52) / 2) * 2 ^ ((e - 52) / 2))
-parts e h =
-    let k = (e - 52) / 2 in
-    let s : e ≡ e % 2 + 52 + (k + k) = omega arith in
-    ap (λ (i : ℕ). 2 ^ i) s
-    ∙ pow-add 2 (e % 2 + 52) (k + k)
-    ∙ ap (λ (x : ℕ). x * 2 ^ (k + k)) (pow-add 2 (e % 2) 52)
-    ∙ ap (λ (x : ℕ). 2 ^ (e % 2) * 2 ^ 52 * x) (pow-add 2 k k)
-    ∙ ap (λ (x : ℕ). x * 2 ^ 52 * (2 ^ k * 2 ^ k)) (bit (e % 2) (omega arith))
-  where
-    bit : (o : ℕ) → o < 2 → 2 ^ o ≡ 1 + o
-    bit zero h = refl
-    bit (suc zero) h = refl
-    bit (suc (suc o)) h = absurd (big o h)
-      where
-        big : (o : ℕ) → suc (suc o) < 2 → ⊥
-        big o h = omega arith
+parts e h = let o : (e - 52) % 2 ≡ e % 2 = omega arith in halves 52 e h ∙ ap (λ (x : ℕ). (1 + x) * 2 ^ 52 * (2 ^ ((e - 52) / 2) * 2 ^ ((e - 52) / 2))) o
 
 pub result : (b m e c : ℕ) → 0 < counted b → b < 0x7ff0_0000_0000_0000 → Scaled (counted b * 2 ^ 1074) m e → NearRoot (m * (1 + e % 2) * 2 ^ 52) c → Result b m e c
 result b m e c p h s n =
