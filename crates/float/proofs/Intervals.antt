@@ -1,9 +1,9 @@
 -- From tests on floats to bounds on whole numbers. With lo = ceil(x), hi = floor(y), once `lo < 0`, `hi > n` and `hi - lo < m` have all failed: `interval-is` says for finite x and y that lo and hi are whole numbers (`Upto`), at most n and at least m apart;
--- `ends-ordered` says for any lo and any hi but a NaN (every test fails on a NaN) that `lo as usize` is at most `hi as usize`, and that at most n. `upto-back`, `upto-is`: what such a whole number is. Assumes nothing.
+-- `ends-ordered` says for any lo and any hi but a NaN (every test fails on a NaN) that `lo as usize` is at most `hi as usize`, and that at most n. `upto-back`, `upto-is`: what such a whole number is. `rank-most`: a rank among k + 1 values is at most k. Assumes nothing.
 use mathlib.Core.Path.{_≡_, refl, sym, ap, _∙_, subst}
 use mathlib.Core.Logic.{_⊎_, inl, inr}
 use Prim.Native.Nat.{ℕ, suc, _+_, _-_, _*_, _^_, _≤_, _<_, zero-le}
-use native.Mathlib.Nat.{le-trans, le-of-eq, le-of-lt, lt-of-not-le, lt-irrefl, not-le-of-lt, le-of-suc-le-suc, mul-one, zero-mul, mul-pos, div-one}
+use native.Mathlib.Nat.{mul-le-mul-left, one-mul, le-trans, le-of-eq, le-of-lt, lt-of-not-le, lt-irrefl, not-le-of-lt, le-of-suc-le-suc, mul-one, zero-mul, mul-pos, div-one}
 use native.Mathlib.Omega.{arith}
 use mathlib.Core.Bool.{Bool, true, false, not, _&&_, Bool·beq, cond, true≢false}
 use lib.IntN.{pos}
@@ -15,15 +15,15 @@ use lib.Ieee.Scale.{finite}
 use lib.Ieee.Order.{round-mono}
 use lib.Ieee.Back.{round-whole}
 use lib.Ieee.Positive.{positive, positive-of-value, above, above-of-le}
-use Rattle.float.specs.Ops.{zero, of, minus-zero, _⊖_}
+use Rattle.float.specs.Ops.{zero, of, minus-zero, _⊖_, _⊗_}
 use Rattle.float.specs.Whole.{floorOf, ceilOf, roundOf}
 use Rattle.float.proofs.Exactly.{unique, neg-round}
 use Rattle.float.proofs.Compared.{nought, no, unsigned-value}
 use Rattle.float.proofs.Ordered.{unsigned-mono, sub-above}
-use Rattle.float.proofs.Sums.{over-zero, sub-over, sum-plus, sum-less}
+use Rattle.float.proofs.Sums.{over-zero, mul-over, sub-over, sum-plus, sum-less}
 use Rattle.float.proofs.Counts.{whole-is, whole-value, whole-back, whole-le}
 use Rattle.float.proofs.Signs.{round-signed, signed-number}
-use Rattle.float.proofs.Monotone.{neg-le, lt-le, not-lt-le, le-through, wholly, floor-pick, ceil-pick, round-pick, floor-is, ceil-is, round-is}
+use Rattle.float.proofs.Monotone.{neg-le, lt-le, not-lt-le, le-through, wholly, floor-pick, ceil-pick, round-pick, floor-is, ceil-is, round-is, round-keeps, round-mono as rounds-mono}
 
 -- ---- a rounded whole number between 0 and n is that number
 pub record Upto (x : Float) (n : ℕ) : Type 0 where
@@ -287,3 +287,18 @@ interval-is x y n m f g N M L a b c =
 
     far : (p q a b m : ℕ) → p ≡ a → q ≡ b → a ≤ b → m ≤ b - a → p + m ≤ q
     far p q a b m e g o h = omega arith
+
+-- ---- the share p, at most 1, of k places, rounded: one of the places 0 to k
+pub rank-most : (k : ℕ) (p : Float) (b d : ℕ) → k ≤ 2 ^ 53 → 0 < d → b ≤ d → HasValue p false b d → toUnsigned 64 (roundOf (of k ⊗ p)) ≤ k
+rank-most k p b d K D h v =
+    le-trans
+    (unsigned-mono 64 (roundOf (of k ⊗ p)) (of k)
+    (subst (λ (z : Float). T (le (roundOf (of k ⊗ p)) z)) (round-keeps (of k) false k (whole-value binary64 k K) ∙ whole-is binary64 k)
+    (rounds-mono (of k ⊗ p) (of k)
+    (subst (λ (z : Float). T (le z (of k))) (sym (mul-over binary64 (of k) p false false k 1 b d (lit< tt) D (whole-value binary64 k K) v))
+    (subst (λ (z : Float). T (le (round binary64 false (k * b) (1 * d)) z)) (whole-is binary64 k)
+    (round-mono binary64 (k * b) (1 * d) k 1 (mul-pos (lit< tt) D) (lit< tt) (le-trans (le-of-eq (mul-one (k * b))) (le-trans (mul-le-mul-left k h) (le-of-eq (ap (λ (z : ℕ). k * z) (sym (one-mul d))))))))))))
+    (le-of-eq (whole-back binary64 64 k K (wide k K)))
+  where
+    wide : (n : ℕ) → n ≤ 2 ^ 53 → n < 2 ^ 64
+    wide n h = omega arith

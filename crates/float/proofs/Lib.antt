@@ -8,10 +8,10 @@
 -- Counts      whole numbers as floats: `whole-value`, `whole-back`, `whole-injective`, `whole-lt`, `whole-le`, `whole-add`, `whole-sub`, `whole-mul`
 -- Signs       the sign of a result, and that it is no NaN: `round-signed`, `add-signed`, `square-signed`, `mul-signed`, `div-signed`, `sqrt-signed`, `abs-signed`
 -- Monotone    `neg-le`, `lt-le`, `not-lt-le`, `le-through`, `signed-le`; `floor-mono`, `ceil-mono`, `round-mono`; `floor-keeps`, `ceil-keeps`, `round-keeps`
--- Within      how large a result can be, so that it is finite: `add-within`, `sub-within`, `mul-within`, `div-within`, `floor-within`, `ceil-within`, `nearest-within`, `whole-within`; `le-within`, `within-le`
--- Intervals   from tests on floats to bounds on whole numbers: `interval-is`, `ends-ordered`, `floor-upto`, `ceil-upto`, `round-upto`, `upto-back`, `upto-is`
+-- Within      how large a result can be, so that it is finite: `add-within`, `sub-within`, `mul-within`, `div-within`, `floor-within`, `ceil-within`, `nearest-within`, `sqrt-within`, `narrow-within`, `max-within`, `whole-within`, `finite-within`; `le-within`, `within-le`
+-- Intervals   from tests on floats to bounds on whole numbers: `interval-is`, `ends-ordered`, `floor-upto`, `ceil-upto`, `round-upto`, `upto-back`, `upto-is`, `rank-most`
 -- Picks, Cuts, Wholes     floor, ceil, round by the whole number next to x
--- Remainders  `rem-small`, and what `rem_one` does in place of `%`
+-- Remainders  `rem-small`, and what `rem_one` does in place of `%`; `rem-one-within`
 -- Patterns, Narrowing     bit patterns, and the f32 nearest to an f64
 -- Squares, Roots, Value, Meaning     the square root; `sqrt-nearest`: no other value is nearer to it; `nearest-unique`
 pub mod Digits

@@ -1,21 +1,26 @@
--- How large a result can be. `Within k x`: x is finite and at most 2 ^ k in size. Sums, differences, products and quotients of such values stay such, `add-within`, `sub-within`, `mul-within`, `div-within`; so do `neg`, `abs`, floor, ceil and round.
+-- How large a result can be. `Within k x`: x is finite and at most 2 ^ k in size. Sums, differences, products and quotients of such values stay such, `add-within`, `sub-within`, `mul-within`, `div-within`; so do `neg`, `abs`, `max`, floor, ceil, round, the f32 nearest (`narrow-within`), and `sqrt-within`: the root of what is at most 4 ^ k. `finite-within`: what a format holds.
 -- `le-within`, `within-le`: the test |x| <= 2 ^ k. `within-finite`, `within-number`: it is finite, and no NaN. Over any format but for the whole numbers. Assumes nothing.
-use mathlib.Core.Path.{_≡_, sym, ap, _∙_, subst}
-use Prim.Native.Nat.{ℕ, zero, suc, _+_, _-_, _*_, _^_, _≤_, _<_}
-use native.Mathlib.Nat.{zero-mul, zero-lt-suc, pow-succ', le-trans, le-of-eq, lt-of-lt-of-le, lt-of-le-of-lt, mul-one, one-mul, mul-pos, mul-comm, mul-assoc, mul-right-comm, mul-mul-mul-comm, mul-le-mul, mul-le-mul-right, le-of-mul-le-mul-right}
+use mathlib.Core.Path.{_≡_, refl, sym, ap, _∙_, subst}
+use Prim.Native.Nat.{ℕ, zero, suc, _+_, _-_, _*_, _^_, _≤_, _<_, zero-le}
+use native.Mathlib.Nat.{lt-irrefl, lt-of-not-le, le-of-suc-le-suc, le-of-lt, zero-mul, zero-lt-suc, pow-succ', le-trans, le-of-eq, lt-of-lt-of-le, lt-of-le-of-lt, mul-one, one-mul, mul-pos, mul-comm, mul-assoc, mul-right-comm, mul-mul-mul-comm, mul-le-mul, mul-le-mul-right, le-of-mul-le-mul-right}
 use native.Mathlib.Omega.{arith}
 use mathlib.Core.Bool.{Bool, true, false, not, _&&_, Bool·beq, cond, true≢false}
-use lib.IntN.{pos}
+use lib.IntN.{ℤ, pos}
 use lib.Dec.{T, ltb, eqb, lit<}
-use lib.Pow.{pow-add, pow-mono, pow-lt}
-use lib.Ieee.{Float, nan, inf, fin, Format, binary64, prec, emax, low, unlike, up, down, round, sum, neg, add, sub, mul, div, le, isNan, ofInt}
-use lib.Ieee.Fits.{down-pos, two}
+use lib.Pow.{pow-pos, pow-add, pow-mono, pow-lt}
+use lib.Ieee.{Float, nan, inf, fin, Format, binary32, binary64, prec, emax, low, unlike, up, down, round, sum, neg, add, sub, mul, div, lt, le, isNan, fits, ofInt}
+use lib.Ieee.Fits.{round-fits, down-pos, two}
 use lib.Ieee.Exact.{HasValue, round-exact}
 use lib.Ieee.Scale.{finite}
 use lib.Ieee.Order.{round-mono}
-use Rattle.float.specs.Ops.{absOf}
+use Rattle.float.specs.Ops.{absOf, maxOf}
 use Rattle.float.specs.Whole.{floorOf, ceilOf, roundOf}
-use Rattle.float.proofs.Exactly.{neg-round}
+use Rattle.float.specs.Narrow.{narrowOf}
+use Rattle.float.specs.Sqrt.{sqrtOf}
+use Rattle.float.proofs.Squares.{square-lt-back}
+use Rattle.float.proofs.Cuts.{revalue}
+use Rattle.float.proofs.Meaning.{sqrt-nearest}
+use Rattle.float.proofs.Exactly.{fits-parts, exponent, neg-round}
 use Rattle.float.proofs.Monotone.{le-fin, fin-le, wholly, floor-pick, ceil-pick, round-pick, floor-steps, ceil-steps, round-steps, floor-is, ceil-is, round-is}
 use Rattle.float.proofs.Picks.{Steps}
 use Rattle.float.proofs.Signs.{Signed, round-signed}
@@ -205,3 +210,63 @@ ceil-within k x K h = subst (Within k) (sym (ceil-is x)) (wholly-within ceil-pic
 
 pub nearest-within : (k : ℕ) (x : Float) → k ≤ 1023 → Within k x → Within k (roundOf x)
 nearest-within k x K h = subst (Within k) (sym (round-is x)) (wholly-within round-pick round-steps k x K h)
+
+-- ---- what a format holds, the larger of two, and the f32 nearest to a value
+pub finite-within : (f : Format) (x : Float) → T (fits f x) → T (finite x) → Within (suc (emax f)) x
+finite-within f nan t h = h
+finite-within f (inf s) t h = h
+finite-within f (fin s m e) t h = le-of-lt (fits-parts f s m e t .2)
+
+pub max-within : (k : ℕ) (x y : Float) → Within k x → Within k y → Within k (maxOf x y)
+unfolding maxOf
+max-within k x y h l = cond-within k (isNan x) y (cond (lt x y) y x) l (cond-within k (lt x y) y x l h)
+
+pub narrow-within : (k : ℕ) (x : Float) → k ≤ 127 → Within k x → Within k (narrowOf x)
+unfolding narrowOf
+narrow-within k nan K h = h
+narrow-within k (inf s) K h = h
+narrow-within k (fin s m e) K h = round-within binary32 s (m * up e) (down e) k (down-pos e) K h
+
+-- ---- the root of what is at most 4 ^ k
+-- r units, no farther from the root of n than any other value, so than the power b = 2 ^ k with n at most b * b
+not-over : (n r b : ℕ) → n ≤ b * b → (b < r → (r + b) * (r + b) < 4 * n) → r ≤ b
+not-over n r b h k = le-of-suc-le-suc (lt-of-not-le (λ (g : suc b ≤ r). never g (k g)))
+  where
+    four : (n b : ℕ) → n ≤ b * b → 4 * n ≤ (b + b) * (b + b)
+    four n b h = omega arith
+
+    longer : (r b : ℕ) → b < r → b + b ≤ r + b
+    longer r b g = omega arith
+
+    never : b < r → (r + b) * (r + b) < 4 * n → ⊥
+    never g l = lt-irrefl (r + b) (lt-of-lt-of-le (square-lt-back (r + b) (b + b) (lt-of-lt-of-le l (four n b h))) (longer r b g))
+
+within-value : (x : Float) (r d k : ℕ) → 0 < d → HasValue x false r d → r ≤ 2 ^ k * d → Within k x
+within-value nan r d k D v h = v
+within-value (inf s) r d k D v h = v
+within-value (fin s m e) r d k D v h = le-of-mul-le-mul-right (le-trans (le-of-eq (v .1)) (le-trans (mul-le-mul-right (down e) h) (le-of-eq (mul-right-comm (2 ^ k) d (down e))))) D
+
+root-within : (f : Format) (m : ℕ) (e : ℤ) (k : ℕ) → k ≤ emax f → T (fits f (fin false m e)) → 0 < m → Within (k + k) (fin false m e) → Within k (sqrtOf f (fin false m e))
+root-within f m e k K t M h =
+    let x = fin false m e in
+    let l = low f in
+    let w = fits-parts f false m e t in
+    let j = exponent f m e (w .1) in
+    let a = m * 2 ^ j .0 in
+    let v : HasValue x false a (2 ^ l) = (refl, j .1) in
+    let g = sqrt-nearest f x a t (mul-pos M (pow-pos (j .0))) v in
+    let b = 2 ^ k * 2 ^ l in
+    let n : a * 2 ^ l ≤ b * b =
+    le-trans
+    (mul-le-mul-right (2 ^ l) (le-of-mul-le-mul-right (le-trans (le-of-eq (sym (j .1))) (le-trans (mul-le-mul-right (2 ^ l) h) (le-of-eq (mul-right-comm (2 ^ (k + k)) (down e) (2 ^ l))))) (down-pos e)))
+    (le-of-eq (ap (λ (z : ℕ). z * 2 ^ l * 2 ^ l) (pow-add 2 k k) ∙ mul-assoc (2 ^ k * 2 ^ k) (2 ^ l) (2 ^ l) ∙ mul-mul-mul-comm (2 ^ k) (2 ^ k) (2 ^ l) (2 ^ l))) in
+    let p : HasValue (round f false (2 ^ k) 1) false b (2 ^ l) = revalue (round f false (2 ^ k) 1) false (2 ^ k) 1 b (2 ^ l) (lit< tt) (sym (mul-one b)) (power-value f k K) in
+    within-value (sqrtOf f x) (g .r) (2 ^ l) k (pow-pos l) (g .value) (not-over (a * 2 ^ l) (g .r) b n (λ c. g .nearest .below (round f false (2 ^ k) 1) b (round-fits f false (2 ^ k) 1) p c))
+
+pub sqrt-within : (f : Format) (x : Float) (k : ℕ) → k ≤ emax f → T (fits f x) → Signed false x → Within (k + k) x → Within k (sqrtOf f x)
+unfolding sqrtOf
+sqrt-within f nan k K t s h = h
+sqrt-within f (inf u) k K t s h = absurd h
+sqrt-within f (fin u zero e) k K t s h = le-trans (le-of-eq (zero-mul (up e))) zero-le
+sqrt-within f (fin true (suc m) e) k K t s h = absurd (true≢false s)
+sqrt-within f (fin false (suc m) e) k K t s h = root-within f (suc m) e k K t (zero-lt-suc m) h
