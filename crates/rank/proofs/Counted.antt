@@ -4,19 +4,20 @@ use mathlib.Core.Logic.{_⊎_, inl, inr}
 use mathlib.Core.Bool.{Bool, true, false, not, cond}
 use mathlib.Core.List.{List}
 use Prim.Native.Nat.{ℕ, zero, suc, _+_, _-_, _*_, _/_, _%_, _^_, _≤_, _<_, zero-le}
-use native.Mathlib.Nat.{le-of-lt, div-le-self, add-zero, add-assoc, div-one, div-div-eq-div-mul, div-lt-iff-lt-mul}
+use native.Mathlib.Nat.{lt-irrefl, suc-mul, mul-le-mul-right, le-add-right, lt-div-mul-add, le-refl, le-of-lt, le-of-suc-le-suc, lt-of-le-of-lt, lt-of-lt-of-le, eq-or-lt-of-le, add-mul, one-mul, mod-eq-of-lt, mod-eq-sub-div-mul, div-eq-of-lt, div-add-mod', div-mul-le-self, div-le-self, add-zero, add-assoc, div-one, div-div-eq-div-mul, div-lt-iff-lt-mul}
 use native.Mathlib.Numerals.{add-one}
 use native.Mathlib.Decide.{decLt}
 use native.Mathlib.Omega.{arith}
-use borrow.Author.Tests.{lt-ltb, le-ltb, eq-eqb, ne-eqb, eqb-true}
-use lib.Pow.{pow-add}
+use borrow.Author.Tests.{lt-ltb, le-ltb, eq-eqb, ne-eqb, eqb-true, ltb-true}
+use lib.Pow.{pow-add, pow-mono}
+use lib.Arith.{digits-div, digits-mod, le-zero}
 use lib.Dec.{T, ltb, eqb, lit<, lit≤}
 use lib.ListN.{length, getD, set, length-set, replicate, length-replicate, getD-replicate}
 use lib.Seq.{getD-set-same, getD-set-other}
 use lib.Ieee.{Float}
 use mir.Val.{boolByte}
 use Rattle.rank.specs.Order.{countTo}
-use Rattle.rank.specs.Keys.{keyAt, cell, below, Histogram, sumTo, Passed, Narrowed, Within}
+use Rattle.rank.specs.Keys.{keyAt, cell, below, Histogram, sumTo, Passed, Narrowed, Within, Found, Layout}
 
 -- ---- counting
 abbrev pub bit : Bool → ℕ
@@ -104,71 +105,91 @@ module _ (key : ℕ → ℕ) (n : ℕ) where
   cell-split w c v C = rw (← below-split w c v C, ← below-split w c (v + 1) C) (sym (below-next (w * c) v))
 
 -- ---- sums of a histogram
-pub histogram-sum : {l : List Float} {w p n : ℕ} {hist : List ℕ} → Histogram l w p n hist → (d : ℕ) → d ≤ 2048 → below (keyAt l) w (p * 2048) n + sumTo hist d ≡ below (keyAt l) w (p * 2048 + d) n
-unfolding sumTo
-histogram-sum {p = p} e zero h = rw (add-zero (p * 2048), add-zero)
-histogram-sum {l} {w} {p} {n} {hist} e (suc d) h =
-    let more : p * 2048 + suc d ≡ p * 2048 + d + 1 = omega arith in
-    rw (more, below-next (keyAt l) n w (p * 2048 + d), ← histogram-sum e d (omega arith), e .counts d (omega arith), add-assoc)
+module _ {l : List Float} {w m p n : ℕ} {hist : List ℕ} (e : Histogram l w m p n hist) where
+  pub histogram-sum : (d : ℕ) → d ≤ m → below (keyAt l) w (p * m) n + sumTo hist d ≡ below (keyAt l) w (p * m + d) n
+  unfolding sumTo
+  histogram-sum zero h = rw (add-zero (p * m), add-zero)
+  histogram-sum (suc d) h =
+      let more : p * m + suc d ≡ p * m + d + 1 = omega arith in
+      rw (more, below-next (keyAt l) n w (p * m + d), ← histogram-sum d (omega arith), e .counts d h, add-assoc)
 
--- the whole histogram holds the cell that it divides
-pub histogram-total : {l : List Float} {w p n : ℕ} {hist : List ℕ} → Histogram l w p n hist → sumTo hist 2048 ≡ cell (keyAt l) (w * 2048) p n
-histogram-total {l} {w} {p} {n} e =
-    let all : p * 2048 + 2048 ≡ (p + 1) * 2048 = omega arith in
-    let a = histogram-sum e 2048 (omega arith) ∙ ap (λ (z : ℕ). below (keyAt l) w z n) all ∙ sym (cell-split (keyAt l) n w 2048 p (lit< tt)) in
-    add-cancel _ _ _ a
-  where
-    add-cancel : (a b c : ℕ) → a + b ≡ a + c → b ≡ c
-    add-cancel a b c e = omega arith
+  -- the whole histogram holds the cell that it divides
+  histogram-total : 0 < m → sumTo hist m ≡ cell (keyAt l) (w * m) p n
+  histogram-total M =
+      let all : p * m + m ≡ (p + 1) * m = rw (add-mul p 1 m, one-mul) in
+      add-cancel _ _ _ (histogram-sum m (le-refl m) ∙ ap (λ (z : ℕ). below (keyAt l) w z n) all ∙ sym (cell-split (keyAt l) n w m p M))
+    where
+      add-cancel : (a b c : ℕ) → a + b ≡ a + c → b ≡ c
+      add-cancel a b c e = omega arith
 
 -- ---- one key more
 cell-turn : (key : ℕ → ℕ) (w v n : ℕ) → cell key w v (n + 1) ≡ cell key w v n + bit (eqb (key n / w) v)
 unfolding cell countTo
 cell-turn key w v n = rw (add-one n)
 
-digit : (h p d : ℕ) → h % 2048 ≡ d → eqb h (p * 2048 + d) ≡ eqb (h / 2048) p
-digit h p d e = go (decLt (h / 2048) p) (decLt p (h / 2048))
+-- a number and the digit that it ends with
+digit : (m h p d : ℕ) → d < m → h % m ≡ d → eqb h (p * m + d) ≡ eqb (h / m) p
+digit m h p d b e = go (decLt (h / m) p) (decLt p (h / m))
   where
-    go : Dec (h / 2048 < p) → Dec (p < h / 2048) → eqb h (p * 2048 + d) ≡ eqb (h / 2048) p
-    go (yes a) b = ne-eqb h (p * 2048 + d) (omega arith) ∙ sym (ne-eqb (h / 2048) p (omega arith))
-    go (no a) (yes b) = ne-eqb h (p * 2048 + d) (omega arith) ∙ sym (ne-eqb (h / 2048) p (omega arith))
-    go (no a) (no b) = eq-eqb h (p * 2048 + d) (omega arith) ∙ sym (eq-eqb (h / 2048) p (omega arith))
+    back : h ≡ p * m + d → h / m ≡ p
+    back i = ap (λ (z : ℕ). z / m) i ∙ digits-div p b
 
-other : (h p d : ℕ) → d < 2048 → (h % 2048 ≡ d → ⊥) → eqb h (p * 2048 + d) ≡ false
-other h p d b n = ne-eqb h (p * 2048 + d) (omega arith)
+    ahead : h / m ≡ p → h ≡ p * m + d
+    ahead i = sym (div-add-mod' h m) ∙ rw (i, e)
 
-pub histogram-turn : {l : List Float} {w p n k : ℕ} {hist : List ℕ} → Histogram l w p n hist → k ≡ keyAt l n →
-    Histogram l w p (n + 1) (set hist (k / w % 2048) (getD hist (k / w % 2048) 0 + boolByte (eqb (k / w / 2048) p)))
-histogram-turn {l} {w} {p} {n} {k} {hist} e is = record { long = simp length-set (e .long); counts = λ (d : ℕ) (b : d < 2048). go d b (decLt d (h % 2048)) (decLt (h % 2048) d) }
+    go : Dec (h / m < p) → Dec (p < h / m) → eqb h (p * m + d) ≡ eqb (h / m) p
+    go (yes a) c = ne-eqb h (p * m + d) (λ i. let j = back i in omega arith) ∙ sym (ne-eqb (h / m) p (omega arith))
+    go (no a) (yes c) = ne-eqb h (p * m + d) (λ i. let j = back i in omega arith) ∙ sym (ne-eqb (h / m) p (omega arith))
+    go (no a) (no c) = let i : h / m ≡ p = omega arith in eq-eqb h (p * m + d) (ahead i) ∙ sym (eq-eqb (h / m) p i)
+
+other : (m h p d : ℕ) → d < m → (h % m ≡ d → ⊥) → eqb h (p * m + d) ≡ false
+other m h p d b n = ne-eqb h (p * m + d) (λ i. n (ap (λ (z : ℕ). z % m) i ∙ digits-mod p b))
+
+pub histogram-turn : {l : List Float} {w m p n k x : ℕ} {hist : List ℕ} → m ≤ 2048 → Histogram l w m p n hist → k ≡ keyAt l n → x ≡ k / w % m →
+    Histogram l w m p (n + 1) (set hist x (getD hist x 0 + boolByte (eqb (k / w / m) p)))
+histogram-turn {l} {w} {m} {p} {n} {k} {x} {hist} M e is at = record { long = simp length-set (e .long); counts = λ (d : ℕ) (b : d < m). go d b (decLt d x) (decLt x d) }
   where
-    h : ℕ
-    h = k / w
-
     new : List ℕ
-    new = set hist (h % 2048) (getD hist (h % 2048) 0 + boolByte (eqb (h / 2048) p))
+    new = set hist x (getD hist x 0 + boolByte (eqb (k / w / m) p))
 
-    away : (d : ℕ) → d < 2048 → (d ≡ h % 2048 → ⊥) → getD new d 0 ≡ cell (keyAt l) w (p * 2048 + d) (n + 1)
-    away d b ne = getD-set-other hist (h % 2048) d _ 0 ne ∙ e .counts d b ∙ sym (rw (cell-turn (keyAt l) w (p * 2048 + d) n, ← is, other h p d b (λ q. ne (sym q)), add-zero))
+    away : (d : ℕ) → d < m → (d ≡ x → ⊥) → getD new d 0 ≡ cell (keyAt l) w (p * m + d) (n + 1)
+    away d b ne =
+        getD-set-other hist x d _ 0 ne
+        ∙ e .counts d b
+        ∙ sym (rw (cell-turn (keyAt l) w (p * m + d) n, ← is, other m (k / w) p d b (λ q. ne (sym q ∙ sym at)), add-zero))
 
-    go : (d : ℕ) → d < 2048 → Dec (d < h % 2048) → Dec (h % 2048 < d) → getD new d 0 ≡ cell (keyAt l) w (p * 2048 + d) (n + 1)
+    go : (d : ℕ) → d < m → Dec (d < x) → Dec (x < d) → getD new d 0 ≡ cell (keyAt l) w (p * m + d) (n + 1)
     go d b (yes a) c = away d b (omega arith)
     go d b (no a) (yes c) = away d b (omega arith)
     go d b (no a) (no c) =
-        let s : h % 2048 ≡ d = omega arith in
+        let s : x ≡ d = omega arith in
         let r : d < length hist = omega (arith, e .long) in
-        rw (s, getD-set-same hist d _ 0 r, byte-bit, cell-turn (keyAt l) w (p * 2048 + d) n, ← is, digit h p d s, e .counts d b)
+        rw (s, getD-set-same hist d _ 0 r, byte-bit, cell-turn (keyAt l) w (p * m + d) n, ← is, digit m (k / w) p d b (sym at ∙ s), e .counts d b)
 
 -- no place of a histogram runs over
-pub histogram-room : {l : List Float} {w p n : ℕ} {hist : List ℕ} → Histogram l w p n hist → n < 2097152 → (d : ℕ) → d < 2048 → (b : Bool) → getD hist d 0 + boolByte b < 4294967296
+pub histogram-room : {l : List Float} {w m p n : ℕ} {hist : List ℕ} → Histogram l w m p n hist → n < 2097152 → (d : ℕ) → d < m → (b : Bool) → getD hist d 0 + boolByte b < 4294967296
 unfolding cell
-histogram-room {l} {w} {p} {n} {hist} e small d h b =
-    let m : getD hist d 0 ≤ n = rw (e .counts d h) (count-most (λ i. eqb (keyAt l i / w) (p * 2048 + d)) n) in
+histogram-room {l} {w} {m} {p} {n} {hist} e small d h b =
+    let t : getD hist d 0 ≤ n = rw (e .counts d h) (count-most (λ i. eqb (keyAt l i / w) (p * m + d)) n) in
     let o : boolByte b ≤ 1 = one b in
     omega arith
   where
     one : (b : Bool) → boolByte b ≤ 1
     one true = lit≤ tt
     one false = lit≤ tt
+
+-- ---- a digit as the code cuts it off
+pub power-most : (b : ℕ) → b ≤ 11 → 2 ^ b ≤ 2048
+power-most b h = pow-mono {i = b} {j = 11} h
+
+cut-below : (h b : ℕ) → h < 2 ^ 64 → h / 2 ^ b * 2 ^ b % 2 ^ 64 ≡ h / 2 ^ b * 2 ^ b
+cut-below h b l = mod-eq-of-lt (lt-of-le-of-lt (div-mul-le-self h (2 ^ b)) l)
+
+pub cut-le : (h b : ℕ) → h < 2 ^ 64 → h / 2 ^ b * 2 ^ b % 2 ^ 64 ≤ h
+cut-le h b l = rw (cut-below h b l) (div-mul-le-self h (2 ^ b))
+
+pub cut-digit : (h b : ℕ) → h < 2 ^ 64 → h - h / 2 ^ b * 2 ^ b % 2 ^ 64 ≡ h % 2 ^ b
+cut-digit h b l = rw (cut-below h b l) (sym (mod-eq-sub-div-mul h (2 ^ b)))
 
 -- ---- walking along a histogram
 pub sum-turn : (l : List ℕ) (d : ℕ) → sumTo l (d + 1) ≡ sumTo l d + getD l d 0
@@ -179,18 +200,34 @@ pub sum-none : (l : List ℕ) → sumTo l 0 ≡ 0
 unfolding sumTo
 sum-none l = refl
 
--- ---- a pass, from an empty histogram to the digit
-pub histogram-none : (l : List Float) (w p : ℕ) → Histogram l w p 0 (replicate 2048 0)
-unfolding cell countTo
-histogram-none l w p = record { long = length-replicate {A = ℕ} 2048 0; counts = λ (d : ℕ) (h : d < 2048). getD-replicate {A = ℕ} 2048 d 0 0 h }
+sum-grows : (l : List ℕ) (c d : ℕ) → c ≤ d → sumTo l c ≤ sumTo l d
+unfolding sumTo
+sum-grows l c zero h = rw (le-zero h) (le-refl 0)
+sum-grows l c (suc d) h = elim (eq-or-lt-of-le h) [ inl e ↦ rw e (le-refl (sumTo l (suc d))) | inr k ↦ omega (arith, sum-grows l c d (le-of-suc-le-suc k)) ]
 
-pub narrowed : {l : List Float} {w p : ℕ} {hist : List ℕ} {rank digit left : ℕ} → Histogram l w p (length l) hist → Passed hist rank digit left → Narrowed l w p rank digit left
-narrowed {l} {w} {p} {hist} {rank} {digit} {left} e h =
+-- ---- a pass, from an empty histogram to the digit
+pub histogram-none : (l : List Float) (w m p : ℕ) → m ≤ 2048 → Histogram l w m p 0 (replicate 2048 0)
+unfolding cell countTo
+histogram-none l w m p M = record { long = length-replicate {A = ℕ} 2048 0; counts = λ (d : ℕ) (h : d < m). getD-replicate {A = ℕ} 2048 d 0 0 (omega arith) }
+
+pub histogram-holds : {l : List Float} {w m p n : ℕ} {hist : List ℕ} {rank : ℕ} → 0 < m → m ≤ 2048 → Histogram l w m p n hist → rank < cell (keyAt l) (w * m) p n → rank < sumTo hist 2048
+histogram-holds {m = m} {hist = hist} P M e h = omega (arith, histogram-total e P, sum-grows hist m 2048 M)
+
+pub narrowed : {l : List Float} {w m p : ℕ} {hist : List ℕ} {rank digit left count : ℕ} → 0 < m → Histogram l w m p (length l) hist → rank < cell (keyAt l) (w * m) p (length l) → Passed hist rank digit left count → Narrowed l w m p rank digit left count
+narrowed {l} {w} {m} {p} {hist} {rank} {digit} {left} {count} P e r h =
+    let d : digit < m = within (decLt digit m) in
     record {
-      digit-lt = h .digit-lt;
-      under = omega (arith, histogram-sum e digit (le-of-lt (h .digit-lt)), h .sum, below-split (keyAt l) (length l) w 2048 p (lit< tt));
-      inside = omega (arith, h .left-lt, e .counts digit (h .digit-lt));
+      under = omega (arith, histogram-sum e digit (le-of-lt d), h .sum, below-split (keyAt l) (length l) w m p P);
+      inside = h .left-lt;
+      all = h .here ∙ e .counts digit d;
     }
+  where
+    within : Dec (digit < m) → digit < m
+    within (yes d) = d
+    within (no d) = absurd (beyond (sum-grows hist m digit (omega arith)) (histogram-total e P))
+      where
+        beyond : sumTo hist m ≤ sumTo hist digit → sumTo hist m ≡ cell (keyAt l) (w * m) p (length l) → ⊥
+        beyond a b = omega (arith, h .sum)
 
 -- ---- from pass to pass
 count-none : (f : ℕ → Bool) (n : ℕ) → ((i : ℕ) → i < n → f i ≡ false) → countTo f n ≡ 0
@@ -204,22 +241,77 @@ count-all f zero e = refl
 count-all f (suc n) e = rw (count-all f n (λ (i : ℕ) (h : i < n). e i (omega arith)), e n (omega arith)) (add-one n)
 
 module _ (l : List Float) (small : (i : ℕ) → keyAt l i < 2 ^ 64) where
-  pub within-all : (rank : ℕ) → rank < length l → Within l (2 ^ 66) rank 0 rank
+  pub within-all : (w rank : ℕ) → 2 ^ 64 ≤ w → rank < length l → Within l w rank 0 rank
   unfolding below cell
-  within-all rank h =
-      let a = count-none (λ i. ltb (keyAt l i / 2 ^ 66) 0) (length l) (λ (i : ℕ) (_ : i < length l). le-ltb (keyAt l i / 2 ^ 66) 0 zero-le) in
-      let b = count-all (λ i. eqb (keyAt l i / 2 ^ 66) 0) (length l) (λ (i : ℕ) (_ : i < length l). eq-eqb (keyAt l i / 2 ^ 66) 0 (omega (arith, small i))) in
+  within-all w rank W h =
+      let a = count-none (λ i. ltb (keyAt l i / w) 0) (length l) (λ (i : ℕ) (_ : i < length l). le-ltb (keyAt l i / w) 0 zero-le) in
+      let b = count-all (λ i. eqb (keyAt l i / w) 0) (length l) (λ (i : ℕ) (_ : i < length l). eq-eqb (keyAt l i / w) 0 (div-eq-of-lt (lt-of-lt-of-le (small i) W))) in
       record { under = omega (arith, a); inside = omega (arith, b) }
 
-  pub prefix-room : (w p left n : ℕ) → 0 < w → left < cell (keyAt l) (w * 2048) p n → p * 2048 + 2047 < 2 ^ 64
+  pub cell-room : (w v n : ℕ) → 0 < cell (keyAt l) w v n → v < 2 ^ 64
   unfolding cell
-  prefix-room w p left n W h =
-      let s = count-some (λ i. eqb (keyAt l i / (w * 2048)) p) n (omega arith) in
-      let e : keyAt l (s .0) / w / 2048 ≡ p = div-div-eq-div-mul (keyAt l (s .0)) w 2048 ∙ eqb-true (keyAt l (s .0) / (w * 2048)) p (s .2) in
+  cell-room w v n h =
+      let s = count-some (λ i. eqb (keyAt l i / w) v) n h in
+      let e : keyAt l (s .0) / w ≡ v = eqb-true (keyAt l (s .0) / w) v (s .2) in
       omega (arith, small (s .0), div-le-self (keyAt l (s .0)) w)
 
-pub within-turn : {l : List Float} {w rank k left digit left' : ℕ} → Within l (w * 2048) rank k left → Narrowed l w k left digit left' → Within l w rank (k * 2048 + digit) left'
-within-turn h n = record { under = n .under ∙ h .under; inside = n .inside }
+pub within-turn : {l : List Float} {w m rank k left digit left' count : ℕ} → Within l (w * m) rank k left → Narrowed l w m k left digit left' count → Within l w rank (k * m + digit) left'
+within-turn h n = record { under = n .under ∙ h .under; inside = rw (← n .all) (n .inside) }
 
-pub pow-digit : (s : ℕ) → 11 ≤ s → 2 ^ s ≡ 2 ^ (s - 11) * 2048
-pow-digit s h = let e : s ≡ s - 11 + 11 = omega arith in ap (λ (i : ℕ). 2 ^ i) e ∙ pow-add 2 (s - 11) 11
+-- ---- the search for the one key of a cell
+pub cell-none : (key : ℕ → ℕ) (w v : ℕ) → cell key w v 0 ≡ 0
+unfolding cell countTo
+cell-none key w v = refl
+
+pub cell-other : (key : ℕ → ℕ) (w v n : ℕ) → cell key w v n ≡ 0 → (key n / w ≡ v → ⊥) → cell key w v (n + 1) ≡ 0
+cell-other key w v n e h = rw (cell-turn key w v n, e, ne-eqb (key n / w) v h)
+
+count-here : (f : ℕ → Bool) (i n : ℕ) → i < n → f i ≡ true → 0 < countTo f n
+unfolding countTo
+count-here f i zero h e = absurd (never h)
+  where
+    never : i < 0 → ⊥
+    never h = omega arith
+count-here f i (suc n) h e = elim (eq-or-lt-of-le (le-of-suc-le-suc h)) [ inl s ↦ subst (λ (z : Bool). 0 < countTo f n + bit z) (sym (ap f (sym s) ∙ e)) (omega arith) | inr b ↦ omega (arith, count-here f i n b e) ]
+
+pub found : (l : List Float) (w v i k : ℕ) → i < length l → k ≡ keyAt l i → k / w ≡ v → Found l w v k
+unfolding cell
+found l w v i k h e f = record { one = count-here (λ j. eqb (keyAt l j / 1) k) i (length l) h (eq-eqb (keyAt l i / 1) k (div-one (keyAt l i) ∙ sym e)); inside = f }
+
+-- where one key is left in a cell, it is the one at the rank
+pub within-one : {l : List Float} {w rank v left k : ℕ} → 0 < w → Within l w rank v left → cell (keyAt l) w v (length l) ≡ 1 → Found l w v k → Within l 1 rank k left
+unfolding below
+within-one {l} {w} {rank} {v} {left} {k} W h o f =
+    let a : below (keyAt l) w v (length l) ≤ below (keyAt l) 1 k (length l) =
+    count-le (λ i. ltb (keyAt l i / w) v) (λ i. ltb (keyAt l i / 1) k) (length l) (λ (i : ℕ) (_ : i < length l) (e : ltb (keyAt l i / w) v ≡ true). lt-ltb (keyAt l i / 1) k (first (keyAt l i) (ltb-true (keyAt l i / w) v e))) in
+    let b : below (keyAt l) 1 (k + 1) (length l) ≤ below (keyAt l) w (v + 1) (length l) =
+    count-le (λ i. ltb (keyAt l i / 1) (k + 1)) (λ i. ltb (keyAt l i / w) (v + 1)) (length l) (λ (i : ℕ) (_ : i < length l) (e : ltb (keyAt l i / 1) (k + 1) ≡ true). lt-ltb (keyAt l i / w) (v + 1) (last (keyAt l i) (ltb-true (keyAt l i / 1) (k + 1) e))) in
+    let c = below-next (keyAt l) (length l) 1 k in
+    let d = below-next (keyAt l) (length l) w v in
+    record { under = omega (arith, h .under, f .one); inside = omega (arith, h .inside, f .one) }
+  where
+    first : (x : ℕ) → x / w < v → x / 1 < k
+    first x h = omega (arith, div-one x, div-lt-iff-lt-mul {k = w} {x = x} {y = v} W .0 h, div-mul-le-self k w, ap (λ (z : ℕ). z * w) (f .inside))
+
+    last : (x : ℕ) → x / 1 < k + 1 → x / w < v + 1
+    last x h =
+        div-lt-iff-lt-mul {k = w} {x = x} {y = v + 1} W .1
+        (omega (arith, div-one x, lt-div-mul-add {a = k} {b = w} W, ap (λ (z : ℕ). z * w) (f .inside), add-mul v 1 w, one-mul w))
+
+-- ---- the digits' places
+pub place-lt : {digits bits : ℕ} (j : ℕ) → Layout digits bits → 0 < j → j ≤ digits → (j - 1) * bits < 64
+place-lt {digits} {bits} zero y p h = absurd (lt-irrefl 0 p)
+place-lt {digits} {bits} (suc j) y p h = rw (suc-sub j) (omega (arith, y .first, mul-le-mul-right bits h, suc-mul j bits))
+  where
+    suc-sub : (j : ℕ) → suc j - 1 ≡ j
+    suc-sub j = omega arith
+
+pub place-pow : (j bits : ℕ) → 0 < j → 2 ^ (j * bits) ≡ 2 ^ ((j - 1) * bits) * 2 ^ bits
+place-pow j bits p = let e : j * bits ≡ (j - 1) * bits + bits = ap (λ (i : ℕ). i * bits) (omega arith) ∙ add-mul (j - 1) 1 bits ∙ rw (one-mul bits) in ap (λ (i : ℕ). 2 ^ i) e ∙ pow-add 2 ((j - 1) * bits) bits
+
+pub place-first : {digits bits : ℕ} → Layout digits bits → 2 ^ 64 ≤ 2 ^ (digits * bits)
+place-first {digits} {bits} y = pow-mono {i = 64} {j = digits * bits} (y .cover)
+
+-- a prefix with one digit more, as the code makes it
+pub prefix : (k m d : ℕ) → k * m + d < 2 ^ 64 → k * m % 2 ^ 64 + d ≡ k * m + d
+prefix k m d h = ap (λ (z : ℕ). z + d) (mod-eq-of-lt (lt-of-le-of-lt (le-add-right (k * m) d) h))

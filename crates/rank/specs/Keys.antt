@@ -36,32 +36,43 @@ unfoldable pub below : (ℕ → ℕ) → ℕ → ℕ → ℕ → ℕ
 unfolding countTo
 below key w v n = countTo (λ i. ltb (key i / w) v) n
 
--- a histogram of the first n keys: the 2048 cells of width w that the cell p of width 2048 * w is made of
-pub record Histogram (l : List Float) (w p n : ℕ) (hist : List ℕ) : Type 0 where
+-- a histogram of the first n keys: the m cells of width w that the cell p of width w * m is made of
+pub record Histogram (l : List Float) (w m p n : ℕ) (hist : List ℕ) : Type 0 where
   pub long : length hist ≡ 2048
-  pub counts : (d : ℕ) → d < 2048 → getD hist d 0 ≡ cell (keyAt l) w (p * 2048 + d) n
+  pub counts : (d : ℕ) → d < m → getD hist d 0 ≡ cell (keyAt l) w (p * m + d) n
 
 -- the first d numbers of a list, added up
 unfoldable pub sumTo : List ℕ → ℕ → ℕ
 sumTo l zero = 0
 sumTo l (suc d) = sumTo l d + getD l d 0
 
--- where the sum passes a rank, and what is left of the rank there
-pub record Passed (l : List ℕ) (rank digit left : ℕ) : Type 0 where
-  pub digit-lt : digit < 2048
+-- where the sum passes a rank, what is left of the rank there, and the number there
+pub record Passed (l : List ℕ) (rank digit left count : ℕ) : Type 0 where
   pub sum : sumTo l digit + left ≡ rank
-  pub left-lt : left < getD l digit 0
+  pub left-lt : left < count
+  pub here : count ≡ getD l digit 0
 
--- one digit more of the key at a rank, and what is left of the rank in its cell. p are the digits above it.
-pub record Narrowed (l : List Float) (w p rank digit left : ℕ) : Type 0 where
-  pub digit-lt : digit < 2048
-  pub under : below (keyAt l) w (p * 2048 + digit) (length l) + left ≡ below (keyAt l) (w * 2048) p (length l) + rank
-  pub inside : left < cell (keyAt l) w (p * 2048 + digit) (length l)
+-- one digit more of the key at a rank, and the rank and the count in its cell of width w. p are the digits above it.
+pub record Narrowed (l : List Float) (w m p rank digit left count : ℕ) : Type 0 where
+  pub under : below (keyAt l) w (p * m + digit) (length l) + left ≡ below (keyAt l) (w * m) p (length l) + rank
+  pub inside : left < count
+  pub all : count ≡ cell (keyAt l) w (p * m + digit) (length l)
+
+-- digits of so many bits that cover 64 bits, all but the first of them within these
+pub record Layout (digits bits : ℕ) : Type 0 where
+  pub most : bits ≤ 11
+  pub cover : 64 ≤ digits * bits
+  pub first : digits * bits < 64 + bits
 
 -- the rank lies in the cell v of width w, and is `left` counted from the cell's first
 pub record Within (l : List Float) (w rank v left : ℕ) : Type 0 where
   pub under : below (keyAt l) w v (length l) + left ≡ rank
   pub inside : left < cell (keyAt l) w v (length l)
+
+-- one of the keys, and it lies in the cell v of width w
+pub record Found (l : List Float) (w v k : ℕ) : Type 0 where
+  pub one : 0 < cell (keyAt l) 1 k (length l)
+  pub inside : k / w ≡ v
 
 -- the key of the value at a rank, and that value is an f64
 pub record Selected (l : List Float) (rank k : ℕ) : Type 0 where

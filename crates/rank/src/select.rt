@@ -3,7 +3,7 @@
 // highest digit down, each digit by one pass that counts.
 use crate::Percentile;
 ghost use mathlib.Core.Path.{_≡_};
-ghost use Prim.Native.Nat.{_+_, _*_, _^_, _<_, _≤_};
+ghost use Prim.Native.Nat.{_+_, _*_, _%_, _^_, _<_, _≤_};
 ghost use lib.ListN.{length, getD};
 ghost use Rattle.rank.specs.Percentile.{rankOf, percentileOf};
 ghost use Rattle.rank.specs.Keys.{
@@ -16,13 +16,16 @@ ghost use Rattle.rank.specs.Keys.{
   sumTo,
   Passed,
   Narrowed,
+  Layout,
+  Found,
   Selected,
 };
 
-// A digit of the key at a rank, and the rank that is left among the values with this digit.
+// A digit of the key at a rank, the rank among the values with this digit, and how many they are.
 struct Place {
     digit: u64,
     left: u64,
+    count: u64,
 }
 
 fn key(x: f64) -> u64
@@ -53,17 +56,26 @@ fn value(k: u64) -> f64
     }
 }
 
-// How often each digit at s comes among the values whose key begins with p.
-fn tally(v: &[f64], s: u64, p: u64, hist: &mut [u32; 2048])
+// The last b bits of h.
+fn digit(h: u64, b: u64) -> usize
+    requires { ⌜ b ≤ 11 ⌝ }
+    ensures { λ r. ⌜ r ≡ h % 2 ^ b ⌝ }
+{
+    (h - ((h >> b) << b)) as usize
+}
+
+// How often each digit of b bits, from bit s on, comes among the values whose key begins with p.
+fn tally(v: &[f64], s: u64, b: u64, p: u64, hist: &mut [u32; 2048])
     requires { ⌜ length (now v) ≤ 2097152 ⌝ }
     requires { ⌜ s < 64 ⌝ }
-    requires { ⌜ Histogram (now v) (2 ^ s) p 0 (now hist) ⌝ }
-    ensures { λ _. ⌜ Histogram (now (v .entry)) (2 ^ s) p (length (now (v .entry))) (now (hist .exit)) ⌝ }
+    requires { ⌜ b ≤ 11 ⌝ }
+    requires { ⌜ Histogram (now v) (2 ^ s) (2 ^ b) p 0 (now hist) ⌝ }
+    ensures { λ _. ⌜ Histogram (now (v .entry)) (2 ^ s) (2 ^ b) p (length (now (v .entry))) (now (hist .exit)) ⌝ }
 {
     for i in 0..v.len() {
         let h = key(v[i]) >> s;
-        let d = (h % 2048) as usize;
-        let m = (h / 2048 == p) as u32;
+        let d = digit(h, b);
+        let m = (h >> b == p) as u32;
         hist[d] = hist[d] + m;
     }
 }
@@ -77,7 +89,7 @@ fn wide(x: u32) -> u64
 // The digit at which the running count passes the rank.
 fn walk(hist: &[u32; 2048], rank: u64) -> Place
     requires { ⌜ rank < sumTo (now hist) 2048 ⌝ }
-    ensures { λ r. ⌜ Passed (now (hist .entry)) rank (r .digit) (r .left) ⌝ }
+    ensures { λ r. ⌜ Passed (now (hist .entry)) rank (r .digit) (r .left) (r .count) ⌝ }
 {
     let mut d: usize = 0;
     let mut left = rank;
@@ -87,46 +99,82 @@ fn walk(hist: &[u32; 2048], rank: u64) -> Place
             return Place {
                 digit: d as u64,
                 left,
+                count: c,
             };
         }
         left = left - c;
         d = d + 1;
     }
     Place {
-        digit: d as u64,
+        digit: 2047,
         left,
+        count: wide(hist[2047]),
     }
 }
 
 // One digit of the key at a rank: p are the digits above it, and the rank counts from the first of
 // the values that begin with them.
-fn pass(v: &[f64], s: u64, p: u64, rank: u64) -> Place
+fn pass(v: &[f64], s: u64, b: u64, p: u64, rank: u64) -> Place
     requires { ⌜ length (now v) ≤ 2097152 ⌝ }
     requires { ⌜ s < 64 ⌝ }
-    requires { ⌜ rank < cell (keyAt (now v)) (2 ^ s * 2048) p (length (now v)) ⌝ }
-    ensures { λ r. ⌜ Narrowed (now (v .entry)) (2 ^ s) p rank (r .digit) (r .left) ⌝ }
+    requires { ⌜ b ≤ 11 ⌝ }
+    requires { ⌜ rank < cell (keyAt (now v)) (2 ^ s * 2 ^ b) p (length (now v)) ⌝ }
+    ensures { λ r. ⌜ Narrowed (now (v .entry)) (2 ^ s) (2 ^ b) p rank (r .digit) (r .left) (r .count) ⌝ }
 {
     let mut hist = [0u32; 2048];
-    tally(v, s, p, &mut hist);
+    tally(v, s, b, p, &mut hist);
     walk(&hist, rank)
 }
 
-// The key at a rank, in six digits of 11 bits, of which the first has two bits too many.
+// The key that begins with p, where only one does.
+fn find(v: &[f64], s: u64, p: u64) -> u64
+    requires { ⌜ s < 64 ⌝ }
+    requires { ⌜ 0 < cell (keyAt (now v)) (2 ^ s) p (length (now v)) ⌝ }
+    ensures { λ r. ⌜ Found (now (v .entry)) (2 ^ s) p r ⌝ }
+{
+    for i in 0..v.len() {
+        let k = key(v[i]);
+        if k >> s == p {
+            return k;
+        }
+    }
+    0
+}
+
+// The key at a rank, in so many digits of so many bits, which are 64 bits or more in all. Most lists
+// need fewer: where one value is left, it is the one.
+fn by_digits(v: &[f64], rank: u64, digits: u64, bits: u64) -> u64
+    requires { ⌜ length (now v) ≤ 2097152 ⌝ }
+    requires { ⌜ rank < length (now v) ⌝ }
+    requires { ⌜ Layout digits bits ⌝ }
+    ensures { λ r. ⌜ Selected (now (v .entry)) rank r ⌝ }
+{
+    let mut j = digits;
+    let mut k: u64 = 0;
+    let mut left = rank;
+    while 0 < j {
+        j = j - 1;
+        let s = j * bits;
+        let step = pass(v, s, bits, k, left);
+        k = (k << bits) + step.digit;
+        left = step.left;
+        if step.count == 1 {
+            return find(v, s, k);
+        }
+    }
+    k
+}
+
+// The key at a rank. For a short list the histogram costs more than the pass, so its digits are short.
 fn select(v: &[f64], rank: u64) -> u64
     requires { ⌜ length (now v) ≤ 2097152 ⌝ }
     requires { ⌜ rank < length (now v) ⌝ }
     ensures { λ r. ⌜ Selected (now (v .entry)) rank r ⌝ }
 {
-    let mut s: u64 = 66;
-    let mut k: u64 = 0;
-    let mut left = rank;
-    while 0 < s {
-        s = s - 11;
-        let step = pass(v, s, k, left);
-        k = k * 2048 + step.digit;
-        left = step.left;
+    if v.len() < 512 {
+        return by_digits(v, rank, 8, 8);
     }
-    k
+    by_digits(v, rank, 6, 11)
 }
 
 // Where in the sorted list the p-th part of it ends: round((count - 1) * p), and at most count - 1.

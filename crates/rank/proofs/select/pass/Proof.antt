@@ -1,17 +1,21 @@
 -- `rank::select::pass` meets its contract. Assumes nothing.
+use native.Mathlib.Omega.{arith}
 use borrow.Author.Needs.{needs}
-use Rattle.rank.proofs.Counted.{histogram-none, histogram-total, narrowed}
+use lib.Pow.{pow-pos}
+use Rattle.rank.proofs.Counted.{histogram-none, histogram-holds, narrowed, power-most}
 use Rattle.rank.proofs.select.pass.Statement.{statement}
 use Rattle.rank.proofs.select.pass.Tie as tie
 
 tally-requires : tie.Need-tally-requires
-tally-requires c κs = (search needs, (search needs, histogram-none _ _ _))
+tally-requires c κs = (search needs, (search needs, (search needs, histogram-none _ _ _ _ (power-most (c .before .before .args .b) (omega arith)))))
 
 walk-requires : tie.Need-walk-requires
-walk-requires c κs = rw (histogram-total (c .before .tally .ensures)) (c .before .before .before .before .pre .1 .1)
+walk-requires c κs =
+    histogram-holds (pow-pos (c .before .before .before .before .args .b)) (power-most (c .before .before .before .before .args .b) (omega arith)) (c .before .tally .ensures) (c .before .before .before .before .pre .1 .1 .1)
 
 returns : tie.Need-returns
-returns c = narrowed (c .before .before .tally .ensures) (c .walk .ensures)
+returns c =
+    narrowed (pow-pos (c .before .before .before .before .before .args .b)) (c .before .before .tally .ensures) (c .before .before .before .before .before .pre .1 .1 .1) (c .walk .ensures)
 
 pub pass-spec : {M : Type 1} → statement M
 pass-spec = tie.close (tie.spec tally-requires walk-requires returns)

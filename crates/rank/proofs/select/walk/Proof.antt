@@ -1,6 +1,6 @@
 -- `rank::select::walk` meets its contract. Assumes nothing.
 use Prim.Native.Nat.{ℕ, _+_, _-_, _≤_, _<_}
-use mathlib.Core.Path.{_≡_, ap}
+use mathlib.Core.Path.{_≡_, sym, ap, _∙_}
 use native.Mathlib.Omega.{arith}
 use borrow.Author.Needs.{needs}
 use lib.ListN.{getD}
@@ -28,7 +28,7 @@ wide-requires : tie.Need-wide-requires Inv-loop μ-loop
 wide-requires c κs = search needs
 
 returns : tie.Need-returns Inv-loop μ-loop
-returns c = record { digit-lt = omega arith; sum = c .before .before .before .before .loop .inv .1; left-lt = omega arith }
+returns c = record { sum = c .before .before .before .before .loop .inv .1; left-lt = c .if1 .taken; here = c .before .wide .ensures }
 
 add-d : tie.Need-add-d Inv-loop μ-loop
 add-d c = search needs
@@ -39,8 +39,18 @@ loop-less c = search needs
 loop-again : tie.Need-loop-again Inv-loop μ-loop
 loop-again c = (search needs, omega (arith, sum-turn (c .before .before .before .before .before .args .hist .now) (c .before .before .before .before .loop .d)))
 
+element-copy-out-wide-2 : tie.Need-element-copy-out-wide-2 Inv-loop μ-loop
+element-copy-out-wide-2 c = search needs
+
+wide-requires-2 : tie.Need-wide-requires-2 Inv-loop μ-loop
+wide-requires-2 c κs = search needs
+
 returns-2 : tie.Need-returns-2 Inv-loop μ-loop
-returns-2 c = let d : c .before .loop .d ≡ 2047 = omega arith in record { digit-lt = omega arith; sum = c .before .loop .inv .1; left-lt = omega (arith, sum-turn (c .before .before .args .hist .now) 2047, ap (sumTo (c .before .before .args .hist .now)) d, ap (λ (i : ℕ). getD (c .before .before .args .hist .now) i 0) d) }
+returns-2 c =
+    let l = c .before .before .before .before .args .hist .now in
+    let d : c .before .before .before .loop .d ≡ 2047 = omega arith in
+    let e : sumTo l 2047 + c .before .before .before .loop .left ≡ c .before .before .before .before .args .rank = ap (λ (i : ℕ). sumTo l i + c .before .before .before .loop .left) (sym d) ∙ c .before .before .before .loop .inv .1 in
+    record { sum = e; left-lt = omega (arith, sum-turn l 2047, c .wide2 .ensures); here = c .wide2 .ensures }
 
 pub walk-spec : {M : Type 1} → statement M
 walk-spec =
@@ -56,4 +66,6 @@ walk-spec =
     add-d
     loop-less
     loop-again
+    element-copy-out-wide-2
+    wide-requires-2
     returns-2)
