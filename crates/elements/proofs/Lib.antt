@@ -3,4 +3,6 @@ pub mod Compared
 pub mod Lists
 pub mod Keyed
 pub mod KeyDowns
+pub mod Same
+pub mod Ways
 pub mod Laws

@@ -2,3 +2,4 @@
 pub mod Crossings
 pub mod Times
 pub mod Found
+pub mod Find

@@ -1,0 +1,55 @@
+// The elements of a recording at a carrier.
+use crate::keying::Found;
+use crate::keying::scan;
+use rank::Percentile;
+use rank::select::percentile;
+use row::amplitudes;
+use row::edge_step;
+ghost use mathlib.Core.Path.{_≡_};
+ghost use Prim.Native.Nat.{_+_, _-_, _*_, _/_, _≤_, _<_};
+ghost use lib.ListN.{length};
+ghost use Rattle.trig.specs.Sine.{sineTable};
+ghost use Rattle.row.specs.Window.{Rate, stepBlocks};
+ghost use Rattle.row.specs.Samples.{Iq};
+ghost use Rattle.elements.specs.Found.{stored};
+ghost use Rattle.elements.specs.Find.{foundOf, elementsFound};
+
+const EDGE_PERCENTILE: f64 = 0.98;
+
+// Rust: find_elements, which answers the elements as a list of its own and counts nothing. The row lies in the work slice, behind the block means.
+pub fn find_elements(
+    iq: &[f32],
+    fs: f64,
+    carrier: f64,
+    elements: &mut [f64],
+    work: &mut [f64],
+    sine: &[u64; 1025],
+) -> Found
+    requires { ⌜ Iq (now iq) ⌝ }
+    requires { ⌜ Rate fs ⌝ }
+    requires { ⌜ now sine ≡ sineTable ⌝ }
+    requires { ⌜ 4 * (stepBlocks (now iq) fs / 2) ≤ length (now elements) ⌝ }
+    requires { ⌜ 4 * stepBlocks (now iq) fs ≤ length (now work) ⌝ }
+    ensures { λ r. ⌜ (r ≡ foundOf (now (iq .entry)) fs carrier)
+        × (now (elements .exit) ≡ stored (now (elements .entry)) (elementsFound (now (iq .entry)) fs carrier)) ⌝ }
+{
+    let step = edge_step(fs);
+    let n = iq.len() / 2;
+    if n < 8 * step {
+        return Found::NONE;
+    }
+    let b = n / step;
+    let from = 2 * b;
+    let to = from + (b - 7);
+    amplitudes(iq, carrier / fs, step, work, sine);
+    let row = &work[from..to];
+    let Percentile::Value(top) = percentile(row, EDGE_PERCENTILE) else {
+        return Found::NONE;
+    };
+    let thr = 0.5 * top;
+    if thr > 0.0 {
+        scan(row, thr, step, fs, elements)
+    } else {
+        Found::NONE
+    }
+}
