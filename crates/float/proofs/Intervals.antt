@@ -23,7 +23,8 @@ use Rattle.float.proofs.Ordered.{unsigned-mono, sub-above}
 use Rattle.float.proofs.Sums.{over-zero, mul-over, sub-over, sum-plus, sum-less}
 use Rattle.float.proofs.Counts.{whole-is, whole-value, whole-back, whole-le}
 use Rattle.float.proofs.Signs.{round-signed, signed-number}
-use Rattle.float.proofs.Monotone.{neg-le, lt-le, not-lt-le, le-through, wholly, floor-pick, ceil-pick, round-pick, floor-is, ceil-is, round-is, round-keeps, round-mono as rounds-mono}
+use Rattle.float.proofs.Picks.{wholly, floor-pick, ceil-pick, round-pick, floor-is, ceil-is, round-is}
+use Rattle.float.proofs.Monotone.{neg-le, lt-le, not-lt-le, le-through, round-keeps, round-mono as rounds-mono}
 
 -- ---- a rounded whole number between 0 and n is that number
 pub record Upto (x : Float) (n : ℕ) : Type 0 where

@@ -13,10 +13,10 @@ use lib.Ieee.Fits.{down-pos, and-i, and-l, and-r, eq→eqb}
 use lib.Ieee.Exact.{HasValue}
 use lib.Ieee.Order.{round-mono as rounds-up}
 use lib.Ieee.Positive.{through}
-use Rattle.float.specs.Whole.{cut, lifted, halfUp, floorOf, ceilOf, roundOf}
+use Rattle.float.specs.Whole.{floorOf, ceilOf, roundOf}
 use Rattle.float.proofs.Exactly.{neg-round}
 use Rattle.float.proofs.Compared.{nought, or-split, lt-or-eq}
-use Rattle.float.proofs.Picks.{Steps, cut-steps, lifted-steps, half-steps}
+use Rattle.float.proofs.Picks.{Steps, wholly, floor-pick, ceil-pick, round-pick, floor-steps, ceil-steps, round-steps, floor-is, ceil-is, round-is}
 use Rattle.float.proofs.Signs.{Signed, round-signed}
 
 -- ---- ± a at most ± b
@@ -248,11 +248,6 @@ unfolding le
 no-bottom s m e h = h
 
 -- ---- to a whole number, each sign its own way
-unfoldable pub wholly : (Bool → ℕ → ℕ → ℕ) → Float → Float
-wholly pick nan = nan
-wholly pick (inf s) = inf s
-wholly pick (fin s m e) = round binary64 s (pick s (m * up e) (down e)) 1
-
 module _ (pick : Bool → ℕ → ℕ → ℕ) (steps : (s : Bool) → Steps (pick s)) where
   zero-picked : (s : Bool) (m u c d : ℕ) → 0 < c → 0 < d → m * u * d ≡ 0 → pick s (m * u) c ≡ 0
   zero-picked s m u c d C D h = ap (λ (z : ℕ). pick s z c) (nil (m * u) d D h ∙ sym (zero-mul c)) ∙ steps s .keeps 0 c C
@@ -281,51 +276,6 @@ module _ (pick : Bool → ℕ → ℕ → ℕ) (steps : (s : Bool) → Steps (pi
   wholly-keeps (inf t) s n v = absurd v
   wholly-keeps (fin t m e) s n v =
       ap (λ (z : ℕ). round binary64 t (pick t z (down e)) 1) (sym (mul-one (m * up e)) ∙ v .1) ∙ ap (λ (z : ℕ). round binary64 t z 1) (steps t .keeps n (down e) (down-pos e)) ∙ ap (λ (z : Bool). round binary64 z n 1) (v .0)
-
-pub floor-pick : Bool → ℕ → ℕ → ℕ
-floor-pick true = lifted
-floor-pick false = cut
-
-pub ceil-pick : Bool → ℕ → ℕ → ℕ
-ceil-pick true = cut
-ceil-pick false = lifted
-
-pub round-pick : Bool → ℕ → ℕ → ℕ
-round-pick s = halfUp
-
-pub floor-steps : (s : Bool) → Steps (floor-pick s)
-unfolding floor-pick
-floor-steps true = lifted-steps
-floor-steps false = cut-steps
-
-pub ceil-steps : (s : Bool) → Steps (ceil-pick s)
-unfolding ceil-pick
-ceil-steps true = cut-steps
-ceil-steps false = lifted-steps
-
-pub round-steps : (s : Bool) → Steps (round-pick s)
-unfolding round-pick
-round-steps s = half-steps
-
-pub floor-is : (x : Float) → floorOf x ≡ wholly floor-pick x
-unfolding floorOf wholly floor-pick
-floor-is nan = refl
-floor-is (inf s) = refl
-floor-is (fin true m e) = refl
-floor-is (fin false m e) = refl
-
-pub ceil-is : (x : Float) → ceilOf x ≡ wholly ceil-pick x
-unfolding ceilOf wholly ceil-pick
-ceil-is nan = refl
-ceil-is (inf s) = refl
-ceil-is (fin true m e) = refl
-ceil-is (fin false m e) = refl
-
-pub round-is : (x : Float) → roundOf x ≡ wholly round-pick x
-unfolding roundOf wholly round-pick
-round-is nan = refl
-round-is (inf s) = refl
-round-is (fin s m e) = refl
 
 pub floor-mono : (x y : Float) → T (le x y) → T (le (floorOf x) (floorOf y))
 floor-mono x y h = rw (floor-is x, floor-is y) (wholly-mono floor-pick floor-steps x y h)

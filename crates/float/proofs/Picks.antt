@@ -1,13 +1,15 @@
--- A fraction a / c to a whole number, toward zero (`cut`), away from zero (`lifted`) and to the nearest (`halfUp`). `Steps`: a larger fraction gives no smaller number, and a whole number stays. With q and r the quotient and the remainder of a by c: which of q and q + 1 each gives. Assumes nothing.
+-- A fraction a / c to a whole number, toward zero (`cut`), away from zero (`lifted`) and to the nearest (`halfUp`). `Steps`: a larger fraction gives no smaller number, and a whole number stays. With q and r the quotient and the remainder of a by c: which of q and q + 1 each gives. floor, ceil and round are each a way for either sign (`wholly`, `floor-is`, `ceil-is`, `round-is`). Assumes nothing.
 use mathlib.Core.Path.{_≡_, refl, sym, ap, _∙_}
 use mathlib.Core.Logic.{inl, inr}
 use Prim.Native.Nat.{ℕ, zero, suc, _+_, _-_, _*_, _/_, _%_, _≤_, _<_, zero-le}
 use native.Mathlib.Nat.{le-trans, le-of-eq, lt-irrefl, lt-of-lt-of-le, lt-of-le-of-lt, eq-zero-or-pos, mul-one, mul-pos, mul-left-comm, mul-right-comm, mul-div-cancel, mul-lt-mul-of-pos-right, lt-of-mul-lt-mul-right, suc-mul, le-div-iff-mul-le, div-mul-le-self, div-eq-of-lt-le, div-add-mod', mod-lt}
 use native.Mathlib.Numerals.{add-one}
 use native.Mathlib.Omega.{arith}
+use mathlib.Core.Bool.{Bool, true, false}
 use lib.Dec.{lit<}
+use lib.Ieee.{Float, nan, inf, fin, binary64, up, down, round}
 use lib.Ieee.Nearest.{div-mono}
-use Rattle.float.specs.Whole.{cut, lifted, halfUp}
+use Rattle.float.specs.Whole.{cut, lifted, halfUp, floorOf, ceilOf, roundOf}
 
 -- a larger fraction gives no smaller number, and a whole number stays
 pub record Steps (pick : ℕ → ℕ → ℕ) : Type 0 where
@@ -86,3 +88,51 @@ module _ (a c : ℕ) (C : 0 < c) where
       let t : a / c * (2 * c) ≡ 2 * (a / c * c) = mul-left-comm (a / c) 2 c in
       let u : (a / c + 1) * (2 * c) ≡ a / c * (2 * c) + 2 * c = ap (λ (z : ℕ). z * (2 * c)) (add-one (a / c)) ∙ suc-mul (a / c) (2 * c) in
       div-eq-of-lt-le (2 * c) (omega arith) (omega arith)
+
+-- ---- to a whole number, each sign its own way
+unfoldable pub wholly : (Bool → ℕ → ℕ → ℕ) → Float → Float
+wholly pick nan = nan
+wholly pick (inf s) = inf s
+wholly pick (fin s m e) = round binary64 s (pick s (m * up e) (down e)) 1
+
+abbrev pub floor-pick : Bool → ℕ → ℕ → ℕ
+floor-pick true = lifted
+floor-pick false = cut
+
+abbrev pub ceil-pick : Bool → ℕ → ℕ → ℕ
+ceil-pick true = cut
+ceil-pick false = lifted
+
+abbrev pub round-pick : Bool → ℕ → ℕ → ℕ
+round-pick s = halfUp
+
+pub floor-steps : (s : Bool) → Steps (floor-pick s)
+floor-steps true = lifted-steps
+floor-steps false = cut-steps
+
+pub ceil-steps : (s : Bool) → Steps (ceil-pick s)
+ceil-steps true = cut-steps
+ceil-steps false = lifted-steps
+
+pub round-steps : (s : Bool) → Steps (round-pick s)
+round-steps s = half-steps
+
+pub floor-is : (x : Float) → floorOf x ≡ wholly floor-pick x
+unfolding floorOf wholly
+floor-is nan = refl
+floor-is (inf s) = refl
+floor-is (fin true m e) = refl
+floor-is (fin false m e) = refl
+
+pub ceil-is : (x : Float) → ceilOf x ≡ wholly ceil-pick x
+unfolding ceilOf wholly
+ceil-is nan = refl
+ceil-is (inf s) = refl
+ceil-is (fin true m e) = refl
+ceil-is (fin false m e) = refl
+
+pub round-is : (x : Float) → roundOf x ≡ wholly round-pick x
+unfolding roundOf wholly
+round-is nan = refl
+round-is (inf s) = refl
+round-is (fin s m e) = refl

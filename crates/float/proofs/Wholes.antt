@@ -6,17 +6,18 @@ use native.Mathlib.Numerals.{add-one}
 use native.Mathlib.Omega.{arith}
 use mathlib.Core.Bool.{Bool, true, false, not, true≢false}
 use lib.IntN.{ℤ, pos, negsuc}
-use lib.Dec.{T, ltb→lt, lt→ltb, nltb→le, lit<, lit≤}
+use lib.Dec.{T-not, T, ltb→lt, lt→ltb, nltb→le, lit<, lit≤}
 use lib.Pow.{pow-pos}
 use lib.Ieee.{Float, nan, inf, fin, binary64, up, down, round, add, sub, neg, lt, le, ofInt, toUnsigned, fits}
 use lib.Ieee.Fits.{down-pos, up-pos}
 use lib.Ieee.Exact.{HasValue}
 use lib.Ieee.Positive.{above, above-of-le}
-use Rattle.float.specs.Whole.{cut, lifted, halfUp, wholeBy, floorOf, ceilOf, roundOf}
+use Rattle.float.specs.Whole.{cut, lifted, halfUp, wholeBy}
 use Rattle.float.proofs.Exactly.{fits-says, fits-parts, zero-exp, few-exact, rest-few, round-self, neg-round}
 use Rattle.float.proofs.Compared.{nought, lt→cross, nlt→cross, le→value, nle→value, under-power, over-power, unsigned-value}
+use Rattle.float.proofs.Sums.{not-under}
 use Rattle.float.proofs.Counts.{whole-value, whole-add, whole-sub}
-use Rattle.float.proofs.Picks.{Steps, stays, cut-steps, lifted-steps, half-steps, split, lifted-next, lifted-same, half-next, half-same}
+use Rattle.float.proofs.Picks.{Steps, wholly, stays, split, lifted-next, lifted-same, half-next, half-same}
 use Rattle.float.proofs.Cuts.{limit, bounced, gap, Bounce, over, under, bounce-is}
 
 -- ---- a value above zero and below the limit
@@ -185,22 +186,13 @@ large pick i (fin false (suc m) (negsuc l)) t h k =
     (le-trans (le-of-eq (ap (λ (z : ℕ). 2 ^ 52 * z) (sym (pow-succ' 2 l)))) (le-trans (over-power (fin false (suc m) (negsuc l)) (suc m * 1) (2 ^ suc l) 52 (pow-pos (suc l)) (refl, refl) k) (le-of-eq (mul-one (suc m))))))
 
 -- neither above nor below zero: a NaN or a zero
-pub zero-keeps : (pick : ℕ → ℕ → ℕ) → Steps pick → (s : Bool) (e : ℤ) → T (fits binary64 (fin s 0 e)) → fin s 0 e ≡ wholeBy pick (fin s 0 e)
-unfolding wholeBy
+zero-keeps : (pick : ℕ → ℕ → ℕ) → Steps pick → (s : Bool) (e : ℤ) → T (fits binary64 (fin s 0 e)) → fin s 0 e ≡ round binary64 s (pick (0 * up e) (down e)) 1
 zero-keeps pick i s e t =
     let z = zero-exp binary64 s e t in
     let u : T (fits binary64 (fin s 0 (pos 0))) = subst (λ (x : ℤ). T (fits binary64 (fin s 0 x))) z t in
-    subst (λ (x : ℤ). fin s 0 x ≡ wholeBy pick (fin s 0 x)) (sym z) (sym (ap (λ (n : ℕ). round binary64 s n 1) (stays pick i 0) ∙ round-self binary64 s 0 (pos 0) u))
+    subst (λ (x : ℤ). fin s 0 x ≡ round binary64 s (pick (0 * up x) (down x)) 1) (sym z) (sym (ap (λ (n : ℕ). round binary64 s n 1) (stays pick i 0) ∙ round-self binary64 s 0 (pos 0) u))
 
 -- ---- the sign
-pub neg-whole : (pick : ℕ → ℕ → ℕ) (x : Float) → neg (wholeBy pick (neg x)) ≡ wholeBy pick x
-unfolding wholeBy neg
-neg-whole pick nan = refl
-neg-whole pick (inf true) = refl
-neg-whole pick (inf false) = refl
-neg-whole pick (fin true m e) = neg-round binary64 false (pick (m * up e) (down e)) 1
-neg-whole pick (fin false m e) = neg-round binary64 true (pick (m * up e) (down e)) 1
-
 pub neg-above : (x : Float) → T (lt x nought) → T (lt nought (neg x))
 unfolding lt neg
 neg-above nan h = absurd h
@@ -229,59 +221,22 @@ unsigned-only P n z (fin true (suc m) e) h k = absurd (none (suc m * up e * 1) (
     none a z h k = omega arith
 
 -- ---- the three functions, by sign
-no-minus : {P : Type 0} (m : ℕ) (e : ℤ) → T (lt (fin false m e) nought) → P
-unfolding lt
-no-minus m e h = absurd (none (m * up e * 1) (0 * 1 * down e) (zero-mul (down e)) (ltb→lt (m * up e * 1) (0 * 1 * down e) h))
-  where
-    none : (a z : ℕ) → z ≡ 0 → a < z → ⊥
-    none a z e h = omega arith
+module _ (pick : Bool → ℕ → ℕ → ℕ) where
+  pub plus-is : (x : Float) → T (lt nought x) → wholeBy (pick false) x ≡ wholly pick x
+  unfolding wholeBy wholly lt
+  plus-is nan h = refl
+  plus-is (inf s) h = refl
+  plus-is (fin true m e) h = absurd h
+  plus-is (fin false m e) h = refl
 
-pub floor-above : (x : Float) → T (lt nought x) → wholeBy cut x ≡ floorOf x
-unfolding wholeBy floorOf lt
-floor-above nan h = refl
-floor-above (inf s) h = refl
-floor-above (fin true m e) h = absurd h
-floor-above (fin false m e) h = refl
+  pub minus-is : (x : Float) → T (lt x nought) → neg (wholeBy (pick true) (neg x)) ≡ wholly pick x
+  unfolding wholeBy wholly neg
+  minus-is nan h = refl
+  minus-is (inf true) h = refl
+  minus-is (inf false) h = refl
+  minus-is (fin true m e) h = neg-round binary64 false (pick true (m * up e) (down e)) 1
+  minus-is (fin false m e) h = absurd (T-not (lt (fin false m e) nought) (not-under (fin false m e) (m * up e) (down e) (refl, refl)) h)
 
-pub floor-below : (x : Float) → T (lt x nought) → wholeBy lifted x ≡ floorOf x
-unfolding wholeBy floorOf
-floor-below nan h = refl
-floor-below (inf s) h = refl
-floor-below (fin true m e) h = refl
-floor-below (fin false m e) h = no-minus m e h
-
-pub ceil-above : (x : Float) → T (lt nought x) → wholeBy lifted x ≡ ceilOf x
-unfolding wholeBy ceilOf lt
-ceil-above nan h = refl
-ceil-above (inf s) h = refl
-ceil-above (fin true m e) h = absurd h
-ceil-above (fin false m e) h = refl
-
-pub ceil-below : (x : Float) → T (lt x nought) → wholeBy cut x ≡ ceilOf x
-unfolding wholeBy ceilOf
-ceil-below nan h = refl
-ceil-below (inf s) h = refl
-ceil-below (fin true m e) h = refl
-ceil-below (fin false m e) h = no-minus m e h
-
-floor-zero : (s : Bool) (e : ℤ) → T (fits binary64 (fin s 0 e)) → fin s 0 e ≡ floorOf (fin s 0 e)
-unfolding floorOf
-floor-zero false e t = zero-keeps cut cut-steps false e t
-floor-zero true e t = zero-keeps lifted lifted-steps true e t
-
-ceil-zero : (s : Bool) (e : ℤ) → T (fits binary64 (fin s 0 e)) → fin s 0 e ≡ ceilOf (fin s 0 e)
-unfolding ceilOf
-ceil-zero false e t = zero-keeps lifted lifted-steps false e t
-ceil-zero true e t = zero-keeps cut cut-steps true e t
-
-pub floor-none : (x : Float) → T (not (lt nought x)) → T (not (lt x nought)) → T (fits binary64 x) → x ≡ floorOf x
-unfolding floorOf
-floor-none = unsigned-only (λ (x : Float). T (fits binary64 x) → x ≡ floorOf x) (λ _. refl) floor-zero
-
-pub ceil-none : (x : Float) → T (not (lt nought x)) → T (not (lt x nought)) → T (fits binary64 x) → x ≡ ceilOf x
-unfolding ceilOf
-ceil-none = unsigned-only (λ (x : Float). T (fits binary64 x) → x ≡ ceilOf x) (λ _. refl) ceil-zero
-
-pub round-none : (x : Float) → T (not (lt nought x)) → T (not (lt x nought)) → T (fits binary64 x) → x ≡ roundOf x
-unfolding roundOf
-round-none = unsigned-only (λ (x : Float). T (fits binary64 x) → x ≡ roundOf x) (λ _. refl) (zero-keeps halfUp half-steps)
+  pub none-is : ((s : Bool) → Steps (pick s)) → (x : Float) → T (not (lt nought x)) → T (not (lt x nought)) → T (fits binary64 x) → x ≡ wholly pick x
+  unfolding wholly
+  none-is steps = unsigned-only (λ (x : Float). T (fits binary64 x) → x ≡ wholly pick x) (λ _. refl) (λ s e. zero-keeps (pick s) (steps s) s e)

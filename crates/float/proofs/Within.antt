@@ -21,8 +21,8 @@ use Rattle.float.proofs.Squares.{square-lt-back}
 use Rattle.float.proofs.Cuts.{revalue}
 use Rattle.float.proofs.Meaning.{sqrt-nearest}
 use Rattle.float.proofs.Exactly.{fits-parts, exponent, neg-round}
-use Rattle.float.proofs.Monotone.{le-fin, fin-le, wholly, floor-pick, ceil-pick, round-pick, floor-steps, ceil-steps, round-steps, floor-is, ceil-is, round-is}
-use Rattle.float.proofs.Picks.{Steps}
+use Rattle.float.proofs.Monotone.{le-fin, fin-le}
+use Rattle.float.proofs.Picks.{wholly, floor-pick, ceil-pick, round-pick, floor-steps, ceil-steps, round-steps, floor-is, ceil-is, round-is, Steps}
 use Rattle.float.proofs.Signs.{Signed, round-signed}
 use Rattle.float.proofs.Sums.{cond-nil}
 
