@@ -12,12 +12,6 @@ by-test : (a b r s : Float) (t : Bool) → r ≡ rem binary64 a b → s ≡ absO
 unfolding remEuclidOf
 by-test a b r s t p q h = sym (ap (λ (z : Float). cond (lt z zero) (add binary64 z (absOf b)) z) (sym p) ∙ (λ i. cond (h i) (add binary64 r (sym q i)) r))
 
-rem-requires : tie.Need-rem-requires
-rem-requires c κs = search needs
-
-abs-requires : tie.Need-abs-requires
-abs-requires c κs = search needs
-
 returns : tie.Need-returns
 returns c = by-test _ _ _ _ true (c .before .before .rem .ensures) (c .before .abs .ensures) (c .if1 .taken)
 
@@ -25,4 +19,4 @@ returns-2 : tie.Need-returns-2
 returns-2 c = by-test _ _ _ _ false (c .before .before .rem .ensures) (c .before .abs .ensures) (c .if1 .left)
 
 pub rem-euclid-spec : {M : Type 1} → statement M
-rem-euclid-spec = tie.close (tie.spec rem-requires abs-requires returns returns-2)
+rem-euclid-spec = tie.close (tie.spec (λ c κs. search needs) (λ c κs. search needs) returns returns-2)

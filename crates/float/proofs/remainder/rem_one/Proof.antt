@@ -14,12 +14,6 @@ over : (c : tie.Then4) → Above (c .before .before .args .a)
 unfolding ofBits
 over c = above-is (c .before .before .args .a) (yes (c .before .before .good .0 .1)) (no (c .before .if1 .left)) (yes (c .if4 .taken))
 
-rem-euclid-requires : tie.Need-rem-euclid-requires
-rem-euclid-requires c κs = search needs
-
-rem-euclid-requires-2 : tie.Need-rem-euclid-requires-2
-rem-euclid-requires-2 c κs = search needs
-
 returns : tie.Need-returns
 unfolding ofBits
 returns c = under (c .before) .more (yes (c .if3 .taken))
@@ -27,9 +21,6 @@ returns c = under (c .before) .more (yes (c .if3 .taken))
 returns-2 : tie.Need-returns-2
 unfolding ofBits
 returns-2 c = under (c .before) .same (no (c .if3 .left))
-
-returns-3 : tie.Need-returns-3
-returns-3 c = search needs
 
 returns-4 : tie.Need-returns-4
 unfolding ofBits
@@ -39,8 +30,5 @@ returns-5 : tie.Need-returns-5
 unfolding ofBits
 returns-5 c = over (c .before) .same (no (c .if5 .left))
 
-returns-6 : tie.Need-returns-6
-returns-6 c = search needs
-
 pub rem-one-spec : {M : Type 1} → statement M
-rem-one-spec = tie.close (tie.spec rem-euclid-requires rem-euclid-requires-2 returns returns-2 returns-3 returns-4 returns-5 returns-6)
+rem-one-spec = tie.close (tie.spec (λ c κs. search needs) (λ c κs. search needs) returns returns-2 (λ c. search needs) returns-4 returns-5 (λ c. search needs))

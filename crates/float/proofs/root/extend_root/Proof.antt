@@ -67,41 +67,20 @@ fixed : (c : tie.Start)
     (boolByte (ltb (c .args .rest * 0x400_0000 % (c .args .root * 2) * 0x400_0000) (c .args .rest * 0x400_0000 / (c .args .root * 2) * (c .args .rest * 0x400_0000 / (c .args .root * 2)))))
 fixed c = corrected (c .args .root) (c .args .rest) _ _ (c .pre .0) (c .pre .1 .0) (at c)
 
-mul-n : tie.Need-mul-n
-mul-n c = search needs
-
-mul-d : tie.Need-mul-d
-mul-d c = search needs
-
-div-a : tie.Need-div-a
-div-a c = search needs
-
-rem-v : tie.Need-rem-v
-rem-v c = search needs
-
 mul-v : tie.Need-mul-v
 mul-v c = let g = at c in omega arith
 
 mul-w : tie.Need-mul-w
 mul-w c = let g = at c in omega arith
 
-mul-q : tie.Need-mul-q
-mul-q c = search needs
-
 add-q : tie.Need-add-q
 add-q c = let g = at c in omega arith
-
-cast-under : tie.Need-cast-under
-cast-under c = search needs
 
 sub-t10 : tie.Need-sub-t10
 sub-t10 c = fixed c .less
 
 mul-t12 : tie.Need-mul-t12
 mul-t12 c = let g = at c in omega arith
-
-sub-t13 : tie.Need-sub-t13
-sub-t13 c = search needs
 
 mul-t14 : tie.Need-mul-t14
 mul-t14 c = omega (arith, fixed c .step)
@@ -116,4 +95,4 @@ returns : tie.Need-returns
 returns c = fixed c .rooted
 
 pub extend-root-spec : {M : Type 1} → statement M
-extend-root-spec = tie.close (tie.spec mul-n mul-d div-a rem-v mul-v mul-w mul-q add-q cast-under sub-t10 mul-t12 sub-t13 mul-t14 add-t15 sub-t16 returns)
+extend-root-spec = tie.close (tie.spec (λ c. search needs) (λ c. search needs) (λ c. search needs) (λ c. search needs) mul-v mul-w (λ c. search needs) add-q (λ c. search needs) sub-t10 mul-t12 (λ c. search needs) mul-t14 add-t15 sub-t16 returns)

@@ -8,17 +8,11 @@ use Rattle.float.proofs.Squares.{root-small, root-large, near-down, nea
 use Rattle.float.proofs.root.nearest_root.Statement.{statement}
 use Rattle.float.proofs.root.nearest_root.Tie as tie
 
-root-from-guess-requires : tie.Need-root-from-guess-requires
-root-from-guess-requires c κs = search needs
-
 extend-root-requires : tie.Need-extend-root-requires
 extend-root-requires c κs =
     let h = c .before .args .h in
     let k = c .root-from-guess .ensures in
     (root-large h _ _ (c .before .pre .0) k, (root-small h _ _ (c .before .pre .1) k .0, k .left))
-
-add-result : tie.Need-add-result
-add-result c = search needs
 
 -- what `extend_root` ensures, of h itself
 rooted : (c : tie.After-extend-root) → Rooted (c .before .before .args .h * 2 ^ 52) (c .extend-root .result .root) (c .extend-root .result .rest)
@@ -31,4 +25,4 @@ returns-2 : tie.Need-returns-2
 returns-2 c = near-up _ _ _ (rooted (c .before .before .before)) (c .before .if1 .left)
 
 pub nearest-root-spec : {M : Type 1} → statement M
-nearest-root-spec = tie.close (tie.spec root-from-guess-requires extend-root-requires add-result returns returns-2)
+nearest-root-spec = tie.close (tie.spec (λ c κs. search needs) extend-root-requires (λ c. search needs) returns returns-2)

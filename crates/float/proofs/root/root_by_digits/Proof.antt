@@ -45,9 +45,6 @@ sub-i c = two c
 mul-t : tie.Need-mul-t Inv-loop μ-loop
 mul-t c = omega (arith, small c .1)
 
-shr-t : tie.Need-shr-t Inv-loop μ-loop
-shr-t c = omega arith
-
 add-t : tie.Need-add-t Inv-loop μ-loop
 add-t c = omega (arith, small c .1)
 
@@ -97,7 +94,7 @@ root-by-digits-spec =
     loop-holds
     sub-i
     mul-t
-    shr-t
+    (λ c. omega arith)
     add-t
     mul-u
     add-u

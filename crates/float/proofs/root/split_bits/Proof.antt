@@ -78,14 +78,8 @@ sub-t6 c = omega (arith, leading-le 64 (c .before .args .b))
 returns : tie.Need-returns
 returns c = subnormal (c .before .args .b) (c .before .pre .0) (c .if1 .taken)
 
-add-t8 : tie.Need-add-t8
-add-t8 c = search needs
-
-add-t10 : tie.Need-add-t10
-add-t10 c = search needs
-
 returns-2 : tie.Need-returns-2
 returns-2 c = normal (c .before .args .b) (c .if1 .left) (c .before .pre .1)
 
 pub split-bits-spec : {M : Type 1} → statement M
-split-bits-spec = tie.close (tie.spec cast-z sub-z shl-t5 sub-t6 returns add-t8 add-t10 returns-2)
+split-bits-spec = tie.close (tie.spec cast-z sub-z shl-t5 sub-t6 returns (λ c. search needs) (λ c. search needs) returns-2)

@@ -56,12 +56,6 @@ float-to-bits-b c = no-nan (c .before .args .x) (c .if1 .left)
 returns-2 : tie.Need-returns-2
 returns-2 c = fixed (c .before .before .args .x) 0 (same (c .before .before)) (c .if2 .taken) at-zero
 
-sqrt-bits-requires : tie.Need-sqrt-bits-requires
-sqrt-bits-requires c κs = search needs
-
-float-from-bits-result : tie.Need-float-from-bits-result
-float-from-bits-result c = search needs
-
 returns-3 : tie.Need-returns-3
 returns-3 c = c .sqrt-bits .ensures .0 ∙ ap (sqrtOf binary64) (same (c .before .before .before .before))
 
@@ -93,8 +87,8 @@ sqrt-spec =
     returns
     float-to-bits-b
     returns-2
-    sqrt-bits-requires
-    float-from-bits-result
+    (λ c κs. search needs)
+    (λ c. search needs)
     returns-3
     returns-4
     returns-5

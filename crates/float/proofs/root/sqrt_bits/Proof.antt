@@ -25,26 +25,11 @@ found c =
     let s = c .before .before .before .before in
     result (s .before .args .b) (s .split-bits .result .digits) (s .split-bits .result .exponent) (c .nearest-root .result) (counted-pos (s .before .args .b) (s .before .pre .0)) (s .before .pre .1) (s .split-bits .ensures) (c .nearest-root .ensures)
 
-split-bits-requires : tie.Need-split-bits-requires
-split-bits-requires c κs = search needs
-
-add-h : tie.Need-add-h
-add-h c = search needs
-
 mul-h : tie.Need-mul-h
 mul-h c = let w = wide (c .before .before) in omega arith
 
-guess-root-requires : tie.Need-guess-root-requires
-guess-root-requires c κs = search needs
-
 nearest-root-requires : tie.Need-nearest-root-requires
 nearest-root-requires c κs = let w = wide (c .before .before .before) in (w .0, w .1)
-
-sub-result : tie.Need-sub-result
-sub-result c = search needs
-
-mul-result : tie.Need-mul-result
-mul-result c = search needs
 
 add-result : tie.Need-add-result
 add-result c = let w = found (c .before) in omega (arith, c .before .before .before .before .before .split-bits .ensures .ceil)
@@ -57,4 +42,4 @@ returns c =
 pub sqrt-bits-spec : {M : Type 1} → statement M
 sqrt-bits-spec =
     tie.close
-    (tie.spec split-bits-requires add-h mul-h guess-root-requires nearest-root-requires sub-result mul-result add-result returns)
+    (tie.spec (λ c κs. search needs) (λ c. search needs) mul-h (λ c κs. search needs) nearest-root-requires (λ c. search needs) (λ c. search needs) add-result returns)

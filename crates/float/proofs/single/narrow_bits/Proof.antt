@@ -11,24 +11,6 @@ use Rattle.float.proofs.Narrowing.{normal, over, sub, tiny}
 use Rattle.float.proofs.single.narrow_bits.Statement.{statement}
 use Rattle.float.proofs.single.narrow_bits.Tie as tie
 
-sub-y : tie.Need-sub-y
-sub-y c = search needs
-
-add-result : tie.Need-add-result
-add-result c = search needs
-
-add-result-2 : tie.Need-add-result-2
-add-result-2 c = search needs
-
-add-d : tie.Need-add-d
-add-d c = search needs
-
-sub-k : tie.Need-sub-k
-sub-k c = search needs
-
-shl-h : tie.Need-shl-h
-shl-h c = search needs
-
 -- the `k` of the source
 abbrev k : tie.Then3 → ℕ
 k c = 925 - c .before .before .before .args .a / 4503599627370496
@@ -49,20 +31,8 @@ sub-result c = omega (arith, h-is c, pow-pos (k c))
 add-result-3 : tie.Need-add-result-3
 add-result-3 c = omega (arith, h-is c, h-le c)
 
-add-result-4 : tie.Need-add-result-4
-add-result-4 c = search needs
-
-shr-result : tie.Need-shr-result
-shr-result c = search needs
-
 add-result-5 : tie.Need-add-result-5
 add-result-5 c = omega (arith, h-is c, h-le c)
-
-add-result-6 : tie.Need-add-result-6
-add-result-6 c = search needs
-
-shr-result-2 : tie.Need-shr-result-2
-shr-result-2 c = search needs
 
 returns : tie.Need-returns
 returns c = over (c .before .args .a) (c .if1 .taken) (c .before .pre)
@@ -83,19 +53,19 @@ pub narrow-bits-spec : {M : Type 1} → statement M
 narrow-bits-spec =
     tie.close
     (tie.spec
-    sub-y
-    add-result
-    add-result-2
-    add-d
-    sub-k
-    shl-h
+    (λ c. search needs)
+    (λ c. search needs)
+    (λ c. search needs)
+    (λ c. search needs)
+    (λ c. search needs)
+    (λ c. search needs)
     sub-result
     add-result-3
-    add-result-4
-    shr-result
+    (λ c. search needs)
+    (λ c. search needs)
     add-result-5
-    add-result-6
-    shr-result-2
+    (λ c. search needs)
+    (λ c. search needs)
     returns
     returns-2
     returns-3

@@ -8,9 +8,6 @@ use borrow.Author.Needs.{needs}
 use Rattle.float.proofs.whole.exact.Statement.{statement}
 use Rattle.float.proofs.whole.exact.Tie as tie
 
-cast-k : tie.Need-cast-k
-cast-k c = search needs
-
 int-to-float-result : tie.Need-int-to-float-result
 unfolding inFloat
 int-to-float-result c = rw (toZ-pos w64 (c .before .args .n) (omega arith)) (le→leb (c .before .args .n) 9007199254740992 (c .before .pre))
@@ -19,4 +16,4 @@ returns : tie.Need-returns
 returns c = rw (toZ-pos w64 (c .before .args .n) (omega arith))
 
 pub exact-spec : {M : Type 1} → statement M
-exact-spec = tie.close (tie.spec cast-k int-to-float-result returns)
+exact-spec = tie.close (tie.spec (λ c. search needs) int-to-float-result returns)

@@ -60,9 +60,6 @@ truncating-f64-to-u64-requires c κs = (above-minus (c .before .before .before .
 returns : tie.Need-returns
 returns c = ap natAbs (known (c .before) .1)
 
-returns-2 : tie.Need-returns-2
-returns-2 c = search needs
-
 returns-3 : tie.Need-returns-3
 unfolding ofBits
 returns-3 c = unsigned-top 64 (c .before .before .before .args .x) (above-minus (c .before .before .before .args .x) (above (c .before .before))) (no (c .if3 .left))
@@ -72,4 +69,4 @@ unfolding ofBits
 returns-4 c = unsigned-none 64 (c .before .args .x) (no (c .if1 .left))
 
 pub to-whole-spec : {M : Type 1} → statement M
-to-whole-spec = tie.close (tie.spec whole-down-requires float-to-int-n cast-result truncating-f64-to-u64-requires returns returns-2 returns-3 returns-4)
+to-whole-spec = tie.close (tie.spec whole-down-requires float-to-int-n cast-result truncating-f64-to-u64-requires returns (λ c. search needs) returns-3 returns-4)
