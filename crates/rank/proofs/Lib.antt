@@ -3,3 +3,4 @@ pub mod Patterns
 pub mod Keyed
 pub mod Counted
 pub mod Sorted
+pub mod Examples

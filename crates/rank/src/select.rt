@@ -28,6 +28,7 @@ struct Place {
     count: u64,
 }
 
+// A value's key: its bit pattern, counted up from the middle without a sign and down with one.
 fn key(x: f64) -> u64
     ensures { λ r. ⌜ r ≡ keyOf x ⌝ }
 {
@@ -42,6 +43,7 @@ fn key(x: f64) -> u64
     }
 }
 
+// The value that has the key k.
 fn value(k: u64) -> f64
     requires { ⌜ Key k ⌝ }
     ensures { λ r. ⌜ r ≡ valueOf k ⌝ }
@@ -142,7 +144,7 @@ fn find(v: &[f64], s: u64, p: u64) -> u64
 }
 
 // The key at a rank, in so many digits of so many bits, which are 64 bits or more in all. Most lists
-// need fewer: where one value is left, it is the one.
+// do not need all of them: where only one value begins with the digits so far, it is the one.
 fn by_digits(v: &[f64], rank: u64, digits: u64, bits: u64) -> u64
     requires { ⌜ length (now v) ≤ 2097152 ⌝ }
     requires { ⌜ rank < length (now v) ⌝ }
