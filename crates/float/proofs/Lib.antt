@@ -9,6 +9,8 @@
 -- Signs       the sign of a result, and that it is no NaN: `round-signed`, `add-signed`, `square-signed`, `mul-signed`, `div-signed`, `sqrt-signed`, `abs-signed`
 -- Monotone    `neg-le`, `lt-le`, `not-lt-le`, `le-through`, `signed-le`; `floor-mono`, `ceil-mono`, `round-mono`; `floor-keeps`, `ceil-keeps`, `round-keeps`
 -- Within      how large a result can be, so that it is finite: `add-within`, `sub-within`, `mul-within`, `div-within`, `floor-within`, `ceil-within`, `nearest-within`, `sqrt-within`, `narrow-within`, `max-within`, `whole-within`, `finite-within`; `le-within`, `within-le`
+-- Bounds      the same with a factor, a * 2 ^ k, for sums of many terms and their means: `Bounded`, `bounded-add`, `bounded-mul`, `bounded-div`, `bounded-mean`, `bounded-round`, `bounded-single`
+-- Amounts     finite, with the sign plus: `Amount`; `amount-root`, `amount-half`, `amount-squares`, `amount-number`, `amount-above`; where a threshold is crossed: `share-bounded`
 -- Intervals   from tests on floats to bounds on whole numbers: `interval-is`, `ends-ordered`, `floor-upto`, `ceil-upto`, `round-upto`, `upto-back`, `upto-is`, `rank-most`
 -- Picks, Cuts, Wholes     floor, ceil, round by the whole number next to x
 -- Remainders  `rem-small`, and what `rem_one` does in place of `%`; `rem-one-within`
@@ -34,4 +36,6 @@ pub mod Squares
 pub mod Roots
 pub mod Value
 pub mod Meaning
+pub mod Bounds
+pub mod Amounts
 mod Examples
