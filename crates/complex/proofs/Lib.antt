@@ -1,0 +1,2 @@
+-- Laws on complex numbers that the crates above cite.
+pub mod Bounds
