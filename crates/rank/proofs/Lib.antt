@@ -4,3 +4,4 @@ pub mod Keyed
 pub mod Counted
 pub mod Sorted
 pub mod Examples
+pub mod Among

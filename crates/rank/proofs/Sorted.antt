@@ -52,7 +52,7 @@ module _ (P : Float → Type 0) where
   insert-every x [] p h = (p, tt)
   insert-every x (y ∷ ys) p h = every-cond (precedes x y) (x ∷ y ∷ ys) (y ∷ insert x ys) (p, h) (h .0, insert-every x ys p (h .1))
 
-  sorted-every : (l : List Float) → Every P l → Every P (sorted l)
+  pub sorted-every : (l : List Float) → Every P l → Every P (sorted l)
   unfolding sorted
   sorted-every [] h = tt
   sorted-every (x ∷ xs) h = insert-every x (sorted xs) (h .0) (sorted-every xs (h .1))
