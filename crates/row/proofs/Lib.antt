@@ -4,4 +4,5 @@ pub mod Steps
 pub mod Means
 pub mod Running
 pub mod Rows
+pub mod Bounds
 pub mod Laws
