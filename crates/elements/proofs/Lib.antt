@@ -5,4 +5,5 @@ pub mod Keyed
 pub mod KeyDowns
 pub mod Same
 pub mod Ways
+pub mod Bounds
 pub mod Laws
