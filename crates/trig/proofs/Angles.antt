@@ -1,27 +1,29 @@
 -- Angles of size up to 7: x × (2048/π) is below 8192 in size, and what is left of x after the nearest place is as well reached from the mark. Assumes nothing.
 use mathlib.Core.Path.{_≡_, refl, sym, ap, _∙_, subst}
 use mathlib.Core.Logic.{inl, inr}
-use Prim.Native.Nat.{ℕ, zero, suc, _+_, _-_, _*_, _/_, _%_, _^_, _≤_, _<_}
-use native.Mathlib.Nat.{zero-mul, mul-one, mul-pos}
+use Prim.Native.Nat.{ℕ, zero, suc, _*_, _%_, _^_, _≤_, _<_, zero-le}
+use native.Mathlib.Nat.{zero-mul, mul-pos}
 use native.Mathlib.Omega.{arith}
-use mathlib.Core.Bool.{Bool, true, false, not, _&&_, _||_, cond, true≢false}
+use mathlib.Core.Bool.{Bool, true, false, not}
 use lib.IntN.{ℤ, pos, negsuc}
-use lib.Dec.{T, ltb, leb, lit<, lit≤}
-use borrow.Author.Tests.{lt-ltb, le-ltb, le-leb, lt-leb}
-use lib.Ieee.{Float, nan, inf, fin, binary64, up, down, unlike, round, sum, add, sub, mul, div, neg, lt, le, eq, ofInt, ofBits, toBits, toSigned, isNan}
-use lib.Ieee.Bits.{is-true, is-false}
+use lib.Dec.{T, ltb, lit<, lit≤}
+use borrow.Author.Tests.{lt-ltb, le-ltb}
+use lib.Ieee.{Float, nan, inf, fin, binary64, up, down, unlike, round, sum, sub, div, neg, le, ofInt, toBits, toSigned, isNan}
+use lib.Ieee.Bits.{is-true}
 use lib.Ieee.Fits.{down-pos}
 use lib.Ieee.Exact.{HasValue}
 use lib.Ieee.Back.{round-whole}
 use lib.Ieee.Order.{round-mono, le-of-values}
 use lib.Ieee.Scale.{round-same}
-use Rattle.float.specs.Ops.{of, absOf, bits, _⊕_, _⊖_, _⊗_, _⊘_}
+use Rattle.float.specs.Ops.{of, absOf, _⊕_, _⊖_, _⊗_, _⊘_}
 use Rattle.float.specs.Whole.{halfUp, roundOf, wholeBy}
 use Rattle.float.proofs.Exactly.{neg-round}
-use Rattle.float.proofs.Compared.{yes, no, le→value}
+use Rattle.float.proofs.Compared.{yes, le→value}
 use Rattle.trig.specs.Constants.{PI}
 use Rattle.trig.specs.Trig.{scaled, placed, restOf, indexOf, within}
-use Rattle.trig.proofs.Fractions.{add-at, mul-at, shape, value-no-nan}
+use Rattle.float.proofs.Counts.{whole-value}
+use Rattle.float.proofs.Sums.{add-over, mul-over, sum-plus, sum-less}
+use Rattle.trig.proofs.Fractions.{shape, value-no-nan}
 use Rattle.trig.proofs.Marks.{mark, less, sumOf, gap, whole-plus, half-small, pattern, last-digits, sum-low}
 
 -- ---- the two quotients of π
@@ -55,8 +57,7 @@ like true = refl
 like false = refl
 
 seven-value : HasValue (of 7) false 7 1
-unfolding ofInt
-seven-value = round-whole binary64 false 7 (lit≤ tt)
+seven-value = whole-value binary64 7 (lit≤ tt)
 
 top-value : HasValue (round binary64 false 8191 1) false 8191 1
 top-value = round-whole binary64 false 8191 (lit≤ tt)
@@ -71,7 +72,7 @@ near-fin s m e h =
     let c = down e in
     let l : a * 1 ≤ 7 * c = le→value (fin false m e) (of 7) a c 7 1 (down-pos e) (lit< tt) (refl, refl) seven-value h in
     let is : scaled (fin s m e) ≡ round binary64 s (a * 5734161139222659) (c * 8796093022208) =
-    mul-at binary64 (fin s m e) (of 2048 ⊘ PI) s false a c 5734161139222659 8796093022208 (down-pos e) (lit< tt) (refl, refl) turns-value
+    mul-over binary64 (fin s m e) (of 2048 ⊘ PI) s false a c 5734161139222659 8796093022208 (down-pos e) (lit< tt) (refl, refl) turns-value
     ∙ ap (λ (z : Bool). round binary64 z (a * 5734161139222659) (c * 8796093022208)) (like s) in
     let b : T (le (round binary64 false (a * 5734161139222659) (c * 8796093022208)) (round binary64 false 8191 1)) =
     round-mono binary64 (a * 5734161139222659) (c * 8796093022208) 8191 1 (mul-pos (down-pos e) (lit< tt)) (lit< tt) (omega arith) in
@@ -109,22 +110,17 @@ nothing : (u : Bool) (p q : ℕ) → 0 < q → round binary64 u (0 * p) q ≡ fi
 nothing u p q h = ap (λ (z : ℕ). round binary64 u z q) (zero-mul p) ∙ round-same binary64 u 0 q 0 1 h (lit< tt) (sym (zero-mul q)) ∙ zero-is u
 
 -- a number that is not negative, with either zero
-unmoved : (t : Bool) (a z c : ℕ) → z ≡ 0 → sum binary64 false a t z c ≡ round binary64 false a c
-unfolding sum
-unmoved false a z c h = ap (λ (x : ℕ). round binary64 false x c) (omega arith)
-unmoved true a z c h = go (ltb a z) (le-ltb a z (omega arith))
-  where
-    go : (t : Bool) → t ≡ false → cond t (round binary64 true (z - a) c) (round binary64 false (a - z) c) ≡ round binary64 false a c
-    go true q = absurd (true≢false q)
-    go false q = ap (λ (x : ℕ). round binary64 false x c) (omega arith)
+unmoved : (t : Bool) (a c : ℕ) → sum binary64 false a t 0 c ≡ round binary64 false a c
+unmoved false a c = sum-plus binary64 false a 0 c ∙ ap (λ (x : ℕ). round binary64 false x c) (omega arith)
+unmoved true a c = sum-less binary64 a 0 c zero-le ∙ ap (λ (x : ℕ). round binary64 false x c) (omega arith)
 
 either-zero : (m : ℕ) (e : ℤ) → fin false m e ⊕ fin false 0 (pos 0) ≡ fin false m e ⊕ fin true 0 (pos 0)
 either-zero m e = same false ∙ sym (same true)
   where
-    same : (t : Bool) → fin false m e ⊕ fin t 0 (pos 0) ≡ round binary64 false (m * up e * 1) (down e * 1)
+    same : (t : Bool) → fin false m e ⊕ fin t 0 (pos 0) ≡ round binary64 false (m * up e) (down e)
     same t =
-        add-at binary64 (fin false m e) (fin t 0 (pos 0)) false t (m * up e) (down e) 0 1 (down-pos e) (lit< tt) (refl, refl) (refl, refl)
-        ∙ unmoved t (m * up e * 1) (0 * down e) (down e * 1) (zero-mul (down e))
+        add-over binary64 (fin false m e) (fin t 0 (pos 0)) false t (m * up e) 0 (down e) (down-pos e) (refl, refl) (refl, zero-mul (down e))
+        ∙ unmoved t (m * up e) (down e)
 
 gap-is : (s : Bool) (n : ℕ) → n ≤ 8192 → gap (sumOf s n 1) ≡ n
 gap-is true n h = omega arith
@@ -132,14 +128,14 @@ gap-is false n h = omega arith
 
 minus-is : (s : Bool) (n p q : ℕ) → 0 < q → (k : Float) → n ≤ 8192 → HasValue k false p q → neg (round binary64 s n 1 ⊗ k) ≡ round binary64 (not s) (n * p) (1 * q)
 minus-is s n p q Q k h v =
-    ap neg (mul-at binary64 (round binary64 s n 1) k s false n 1 p q (lit< tt) Q (round-whole binary64 s n (omega arith)) v ∙ ap (λ (z : Bool). round binary64 z (n * p) (1 * q)) (like s))
+    ap neg (mul-over binary64 (round binary64 s n 1) k s false n 1 p q (lit< tt) Q (round-whole binary64 s n (omega arith)) v ∙ ap (λ (z : Bool). round binary64 z (n * p) (1 * q)) (like s))
     ∙ neg-round binary64 s (n * p) (1 * q)
 
 step-is : (s : Bool) (n p q : ℕ) → 0 < q → (k : Float) → n ≤ 8192 → HasValue k false p q → (mark ⊖ (round binary64 s n 1 ⊕ mark)) ⊗ k ≡ round binary64 (ltb 6755399441055744 (sumOf s n 1)) (n * p) (1 * q)
 step-is s n p q Q k h v =
     let t = ltb 6755399441055744 (sumOf s n 1) in
     ap (λ (z : Float). z ⊗ k) (less (round binary64 s n 1 ⊕ mark) (sumOf s n 1) (whole-plus s n h .1) ∙ ap (λ (z : ℕ). round binary64 t z 1) (gap-is s n h))
-    ∙ mul-at binary64 (round binary64 t n 1) k t false n 1 p q (lit< tt) Q (round-whole binary64 t n (omega arith)) v
+    ∙ mul-over binary64 (round binary64 t n 1) k t false n 1 p q (lit< tt) Q (round-whole binary64 t n (omega arith)) v
     ∙ ap (λ (z : Bool). round binary64 z (n * p) (1 * q)) (like t)
 
 rest-open : (x y : Float) → x ⊖ y ≡ x ⊕ neg y

@@ -1,24 +1,24 @@
 -- The logarithm's m and e are those that the code reads off a bit pattern, of a normal number its own and of a smaller one that of 2^54 times it. Assumes nothing.
 use mathlib.Core.Path.{_≡_, refl, sym, ap, _∙_, subst}
 use Prim.Native.Nat.{ℕ, zero, suc, _+_, _-_, _*_, _/_, _%_, _^_, _≤_, _<_, zero-le}
-use native.Mathlib.Nat.{le-trans, le-of-eq, lt-of-lt-of-le, lt-of-le-of-lt, lt-irrefl, zero-lt-suc, zero-mul, mul-pos, mul-one, one-mul, mul-comm, mul-assoc, mul-right-comm, mul-le-mul-right, mul-lt-mul-of-pos-right, le-of-mul-le-mul-right, lt-of-mul-lt-mul-right}
+use native.Mathlib.Nat.{le-trans, le-of-eq, lt-of-lt-of-le, lt-of-le-of-lt, zero-lt-suc, mul-pos, mul-one, mul-assoc, mul-le-mul-right, mul-lt-mul-of-pos-right, le-of-mul-le-mul-right, lt-of-mul-lt-mul-right}
 use native.Mathlib.Omega.{arith}
 use mathlib.Core.Bool.{Bool, true, false, not}
 use lib.IntN.{ℤ, pos, negsuc, _+ℤ_}
-use lib.Dec.{T, ltb, eqb, ltb→lt, eqb→eq, T-not, lit<, lit≤}
-use lib.Pow.{pow-add, pow-pos, pow-mono}
-use lib.Ieee.{Float, nan, inf, fin, binary64, up, down, minus, round, mul, lt, eq, fits, isNan, ofInt, ofBits, toBits}
+use lib.Dec.{T, eqb, eqb→eq, T-not, lit<, lit≤}
+use lib.Pow.{pow-add, pow-pos}
+use lib.Ieee.{Float, nan, inf, fin, binary64, up, down, minus, round, lt, eq, fits, isNan, ofInt, ofBits, toBits}
 use lib.Ieee.Digits.{minus-val}
 use lib.Ieee.Fits.{mul-fits, up-pos, down-pos, and-l}
 use lib.Ieee.Bits.{toBits-lt}
 use lib.Ieee.Exact.{HasValue, round-exact}
-use Rattle.float.specs.Ops.{of, fraction, _⊖_, _⊗_}
+use Rattle.float.specs.Ops.{of, _⊖_, _⊗_}
 use Rattle.float.proofs.Exactly.{fits-says, zero-exp}
 use Rattle.float.proofs.Compared.{lt→cross, nlt→cross, cross→lt}
-use Rattle.float.proofs.Cuts.{revalue}
 use Rattle.trig.specs.Log.{octave, mantissaOf, exponentOf, logOf, log10Of}
-use Rattle.trig.proofs.Fractions.{mul-at, value-no-nan}
-use Rattle.trig.proofs.Octaves.{minus-same, minus-plus, whole-less, offset, mantissa-is, exponent-is, fields, ByBits, by-bits}
+use Rattle.float.proofs.Sums.{mul-over}
+use Rattle.trig.proofs.Fractions.{value-no-nan}
+use Rattle.trig.proofs.Octaves.{minus-same, minus-plus, whole-less, offset, mantissa-is, exponent-is, fields, by-bits}
 
 -- what the code reads off a pattern b
 abbrev pub digitsOf : ℕ → Float
@@ -72,7 +72,7 @@ raised n x p few e h =
     let c = 2 ^ 1074 in
     let small : suc n * 2 ^ (x + 54) < 2 ^ 2098 = lt-of-le-of-lt (le-of-eq (sym s)) (lt-of-lt-of-le (mul-lt-mul-of-pos-right h (pow-pos 54)) (lit≤ tt)) in
     subst (λ (z : Float). HasValue z false (suc n * 2 ^ (x + 54)) c)
-    (sym (mul-at binary64 (fin false (suc n) p) (fin false 1 (pos 54)) false false a c (2 ^ 54) 1 (pow-pos 1074) (lit< tt) (own n x p e) (refl, refl) ∙ ap (λ (z : ℕ). round binary64 false z (c * 1)) s ∙ ap (λ (z : ℕ). round binary64 false (suc n * 2 ^ (x + 54)) z) (mul-one c)))
+    (sym (mul-over binary64 (fin false (suc n) p) (fin false 1 (pos 54)) false false a c (2 ^ 54) 1 (pow-pos 1074) (lit< tt) (own n x p e) (refl, refl) ∙ ap (λ (z : ℕ). round binary64 false z (c * 1)) s ∙ ap (λ (z : ℕ). round binary64 false (suc n * 2 ^ (x + 54)) z) (mul-one c)))
     (round-exact binary64 false (suc n * 2 ^ (x + 54)) c (suc n) (x + 54) (pow-pos 1074) few small refl)
 
 under : (n x : ℕ) (p : ℤ) → p ≡ minus x 1074 → T (lt (fin false (suc n) p) tiny) → suc n * 2 ^ x < 2 ^ 52

@@ -1,50 +1,42 @@
 -- A whole number added to 1.5 · 2^52, the mark: the sum's last digits are the number's, and the sum of the mark and y is that of the mark and `roundOf y`, unless y lies half-way between two whole numbers. Assumes nothing.
 use mathlib.Core.Path.{_≡_, refl, sym, ap, _∙_, subst}
-use mathlib.Core.Logic.{_⊎_, inl, inr}
+use mathlib.Core.Logic.{inl, inr}
 use Prim.Native.Nat.{ℕ, zero, suc, _+_, _-_, _*_, _/_, _%_, _^_, _≤_, _<_}
-use native.Mathlib.Nat.{le-trans, le-of-eq, le-of-lt, lt-of-not-le, not-le-of-lt, lt-of-lt-of-le, lt-of-le-of-lt, zero-mul, mul-pos, mul-one, one-mul, mul-comm, mul-assoc, mul-right-comm, mul-mul-mul-comm, mul-le-mul, mul-le-mul-right, mul-lt-mul-of-pos-right, add-mul, suc-mul, mul-left-comm, mul-div-cancel, div-lt-iff-lt-mul, div-add-mod', mod-lt, zero-add, zero-lt-suc}
+use native.Mathlib.Nat.{le-trans, le-of-eq, le-of-lt, lt-of-not-le, not-le-of-lt, lt-of-lt-of-le, mul-pos, mul-one, one-mul, mul-mul-mul-comm, mul-le-mul, mul-le-mul-right, mul-lt-mul-of-pos-right, add-mul, suc-mul, mul-left-comm, mul-div-cancel, div-lt-iff-lt-mul, div-add-mod', mod-lt}
 use native.Mathlib.Omega.{arith}
-use mathlib.Core.Bool.{Bool, true, false, not, _&&_, cond, true≢false}
-use lib.IntN.{ℤ, pos, negsuc, negℤ, _+ℤ_}
+use mathlib.Core.Bool.{Bool, true, false, not, _&&_, cond}
+use lib.IntN.{ℤ, pos, negsuc}
 use lib.Dec.{T, ltb, ltb→lt, lt→ltb, nltb→le, le→leb, lit<, lit≤}
-use lib.Pow.{pow-pos, pow-mono}
-use lib.Ieee.{Float, nan, inf, fin, Format, binary64, up, down, size, unlike, round, sum, add, sub, mul, neg, lt, le, isNan, ofInt, inFloat, toBits, toSigned, fits}
-use lib.Ieee.Digits.{size-lt, size-le}
-use lib.Ieee.Fits.{down-pos, add-fits, round-fits}
+use lib.Pow.{pow-pos}
+use lib.Ieee.{Float, nan, inf, fin, binary64, up, down, size, unlike, round, sum, mul, lt, le, ofInt, inFloat, toBits, toSigned, fits}
+use lib.Ieee.Digits.{size-le}
+use lib.Ieee.Fits.{down-pos, add-fits}
 use lib.Ieee.Exact.{HasValue}
 use lib.Ieee.Nearest.{closest}
 use lib.Ieee.Back.{round-whole, positive-back, negative-back}
 use Rattle.float.specs.Ops.{of, absOf, _⊕_, _⊖_, _⊗_}
 use Rattle.float.specs.Whole.{halfUp, roundOf, wholeBy}
-use Rattle.float.proofs.Exactly.{round-value, neg-round}
+use Rattle.float.proofs.Exactly.{round-value}
 use Rattle.float.proofs.Compared.{yes, cross→lt, le→value}
 use Rattle.float.proofs.Cuts.{round-at-one, closest-bounds, revalue}
 use Rattle.trig.specs.Trig.{within}
-use Rattle.trig.proofs.Patterns.{size-gt, pattern-is}
-use Rattle.trig.proofs.Fractions.{add-at, sub-at, mul-at, shape, under}
+use Rattle.float.proofs.Counts.{whole-value}
+use Rattle.float.proofs.Digits.{size-gt}
+use Rattle.float.proofs.Sums.{add-over, sub-over, mul-over, sum-plus, sum-more}
+use Rattle.trig.proofs.Patterns.{pattern-is}
+use Rattle.trig.proofs.Fractions.{shape, under}
 
 abbrev pub mark : Float
 mark = of 6755399441055744
 
 mark-value : HasValue mark false 6755399441055744 1
-unfolding ofInt
-mark-value = round-whole binary64 false 6755399441055744 (lit≤ tt)
+mark-value = whole-value binary64 6755399441055744 (lit≤ tt)
 
--- ---- sums by their signs
-alike : (s : Bool) (a b c : ℕ) → sum binary64 s a s b c ≡ round binary64 s (a + b) c
-unfolding sum
-alike true a b c = refl
-alike false a b c = refl
+-- a whole number over any denominator
+over : (x : Float) (s : Bool) (n c : ℕ) → HasValue x s n 1 → HasValue x s (n * c) c
+over x s n c v = revalue x s n 1 (n * c) c (lit< tt) (sym (mul-one (n * c))) v
 
--- the first the smaller
-over : (a b c : ℕ) → a < b → sum binary64 true a false b c ≡ round binary64 false (b - a) c
-unfolding sum
-over a b c h = go (ltb a b) (lt→ltb a b h)
-  where
-    go : (t : Bool) → T t → cond t (round binary64 false (b - a) c) (round binary64 (ltb b a) (a - b) c) ≡ round binary64 false (b - a) c
-    go true h = refl
-    go false h = absurd h
-
+-- ---- a sum of two signs
 sized : (s : Bool) (a b c : ℕ) (t : Bool) → (T t → a < b) → (T (not t) → b ≤ a) → (u : Bool) × (cond t (round binary64 (not s) (b - a) c) (round binary64 (s && ltb b a) (a - b) c) ≡ round binary64 u (a - b + (b - a)) c)
 sized s a b c true h k = (not s, ap (λ (z : ℕ). round binary64 (not s) z c) (big a b (h tt)))
   where
@@ -68,15 +60,11 @@ sumOf false a c = a + 6755399441055744 * c
 
 plus : (y : Float) (s : Bool) (a c : ℕ) → 0 < c → a ≤ 8192 * c → HasValue y s a c → y ⊕ mark ≡ round binary64 false (sumOf s a c) c
 plus y true a c C h v =
-    add-at binary64 y mark true false a c 6755399441055744 1 C (lit< tt) v mark-value
-    ∙ over (a * 1) (6755399441055744 * c) (c * 1) (omega arith)
-    ∙ ap (λ (z : ℕ). round binary64 false (6755399441055744 * c - z) (c * 1)) (mul-one a)
-    ∙ ap (λ (z : ℕ). round binary64 false (6755399441055744 * c - a) z) (mul-one c)
+    add-over binary64 y mark true false a (6755399441055744 * c) c C v (over mark false 6755399441055744 c mark-value)
+    ∙ sum-more binary64 true a (6755399441055744 * c) c (omega arith)
 plus y false a c C h v =
-    add-at binary64 y mark false false a c 6755399441055744 1 C (lit< tt) v mark-value
-    ∙ alike false (a * 1) (6755399441055744 * c) (c * 1)
-    ∙ ap (λ (z : ℕ). round binary64 false (z + 6755399441055744 * c) (c * 1)) (mul-one a)
-    ∙ ap (λ (z : ℕ). round binary64 false (a + 6755399441055744 * c) z) (mul-one c)
+    add-over binary64 y mark false false a (6755399441055744 * c) c C v (over mark false 6755399441055744 c mark-value)
+    ∙ sum-plus binary64 false a (6755399441055744 * c) c
 
 -- it lies where binary64 has whole numbers alone
 ranged : (s : Bool) (a c : ℕ) → 0 < c → a ≤ 8192 * c → (2 ^ 52 * c ≤ sumOf s a c) × (sumOf s a c < 2 ^ 53 * c)
@@ -90,8 +78,7 @@ gap B = 6755399441055744 - B + (B - 6755399441055744)
 pub less : (w : Float) (B : ℕ) → HasValue w false B 1 → mark ⊖ w ≡ round binary64 (ltb 6755399441055744 B) (gap B) 1
 unfolding sum
 less w B v =
-    sub-at binary64 mark w false false 6755399441055744 1 B 1 (lit< tt) (lit< tt) mark-value v
-    ∙ ap (λ (z : ℕ). sum binary64 false 6755399441055744 true z 1) (mul-one B)
+    sub-over binary64 mark w false false 6755399441055744 B 1 (lit< tt) mark-value v
     ∙ go (ltb 6755399441055744 B) (ltb→lt 6755399441055744 B) (nltb→le 6755399441055744 B)
   where
     go : (t : Bool) → (T t → 6755399441055744 < B) → (T (not t) → B ≤ 6755399441055744) → cond t (round binary64 true (B - 6755399441055744) 1) (round binary64 false (6755399441055744 - B) 1) ≡ round binary64 t (gap B) 1
@@ -121,25 +108,25 @@ abbrev apartOf : Bool → ℕ → ℕ → ℕ → ℕ
 apartOf s a c B = sumOf s a c - B * c + (B * c - sumOf s a c)
 
 -- the four cases of the two signs come to one size
-sizes : (s t : Bool) (a c B : ℕ) → a ≤ 8192 * c → (T t → 6755399441055744 < B) → (T (not t) → B ≤ 6755399441055744) → (u : Bool) × (sum binary64 s (a * 1) t (gap B * c) (c * 1) ≡ round binary64 u (apartOf s a c B) (c * 1))
+sizes : (s t : Bool) (a c B : ℕ) → a ≤ 8192 * c → (T t → 6755399441055744 < B) → (T (not t) → B ≤ 6755399441055744) → (u : Bool) × (sum binary64 s a t (gap B * c) c ≡ round binary64 u (apartOf s a c B) c)
 sizes true true a c B l h k =
     let g = gap-over B c (h tt) in
-    let z : a * 1 + gap B * c ≡ apartOf true a c B = omega arith in
-    (true, alike true (a * 1) (gap B * c) (c * 1) ∙ ap (λ (z : ℕ). round binary64 true z (c * 1)) z)
+    let z : a + gap B * c ≡ apartOf true a c B = omega arith in
+    (true, sum-plus binary64 true a (gap B * c) c ∙ ap (λ (z : ℕ). round binary64 true z c) z)
 sizes false false a c B l h k =
     let g = gap-under B c (k tt) in
-    let z : a * 1 + gap B * c ≡ apartOf false a c B = omega arith in
-    (false, alike false (a * 1) (gap B * c) (c * 1) ∙ ap (λ (z : ℕ). round binary64 false z (c * 1)) z)
+    let z : a + gap B * c ≡ apartOf false a c B = omega arith in
+    (false, sum-plus binary64 false a (gap B * c) c ∙ ap (λ (z : ℕ). round binary64 false z c) z)
 sizes true false a c B l h k =
     let g = gap-under B c (k tt) in
-    let w = apart true (a * 1) (gap B * c) (c * 1) in
-    let z : a * 1 - gap B * c + (gap B * c - a * 1) ≡ apartOf true a c B = omega arith in
-    (w .0, w .1 ∙ ap (λ (z : ℕ). round binary64 (w .0) z (c * 1)) z)
+    let w = apart true a (gap B * c) c in
+    let z : a - gap B * c + (gap B * c - a) ≡ apartOf true a c B = omega arith in
+    (w .0, w .1 ∙ ap (λ (z : ℕ). round binary64 (w .0) z c) z)
 sizes false true a c B l h k =
     let g = gap-over B c (h tt) in
-    let w = apart false (a * 1) (gap B * c) (c * 1) in
-    let z : a * 1 - gap B * c + (gap B * c - a * 1) ≡ apartOf false a c B = omega arith in
-    (w .0, w .1 ∙ ap (λ (z : ℕ). round binary64 (w .0) z (c * 1)) z)
+    let w = apart false a (gap B * c) c in
+    let z : a - gap B * c + (gap B * c - a) ≡ apartOf false a c B = omega arith in
+    (w .0, w .1 ∙ ap (λ (z : ℕ). round binary64 (w .0) z c) z)
 
 gap-small : (B : ℕ) → B ≤ 2 ^ 53 → gap B ≤ 2 ^ 53
 gap-small B h = omega arith
@@ -150,9 +137,8 @@ away y w s a c B C l v b q =
     let r = sizes s t a c B l (ltb→lt 6755399441055744 B) (nltb→le 6755399441055744 B) in (
       r .0,
       ap (λ (z : Float). y ⊕ z) (less w B q)
-          ∙ add-at binary64 y (round binary64 t (gap B) 1) s t a c (gap B) 1 C (lit< tt) v (round-whole binary64 t (gap B) (gap-small B b))
-          ∙ r .1
-          ∙ ap (λ (z : ℕ). round binary64 (r .0) (apartOf s a c B) z) (mul-one c),
+          ∙ add-over binary64 y (round binary64 t (gap B) 1) s t a (gap B * c) c C v (over (round binary64 t (gap B) 1) t (gap B) c (round-whole binary64 t (gap B) (gap-small B b)))
+          ∙ r .1,
     )
 
 -- ---- a square below 1/4 is that of a number below 1/2, and so is the fraction that was rounded to it
@@ -182,7 +168,7 @@ square d u D c C e h =
         let b = down g in
         let q : a * a * 4 < 1 * (b * b) =
         under binary64 (a * a) (b * b) 1 (negsuc 1) (mul-pos (down-pos g) (down-pos g)) tt
-        (subst (λ (z : Float). T (lt z (fin false 1 (negsuc 1)))) (mul-at binary64 (fin u m g) (fin u m g) u u a b a b (down-pos g) (down-pos g) (refl, refl) (refl, refl) ∙ ap (λ (z : Bool). round binary64 z (a * a) (b * b)) (unlike-self u)) t) in
+        (subst (λ (z : Float). T (lt z (fin false 1 (negsuc 1)))) (mul-over binary64 (fin u m g) (fin u m g) u u a b a b (down-pos g) (down-pos g) (refl, refl) (refl, refl) ∙ ap (λ (z : Bool). round binary64 z (a * a) (b * b)) (unlike-self u)) t) in
         let p : a * 2 < b = halved a b (lt-of-lt-of-le q (le-of-eq (one-mul (b * b)))) in
         let l : T (lt (round binary64 false D c) (fin false 1 (negsuc 0))) =
         subst (λ (z : Float). T (lt z (fin false 1 (negsuc 0)))) (sym r) (cross→lt (fin false m g) (fin false 1 (negsuc 0)) a b 1 2 (down-pos g) (lit< tt) (refl, refl) (refl, refl) (lt-of-lt-of-le p (le-of-eq (sym (one-mul b))))) in
@@ -303,9 +289,8 @@ last-digits true zero h = rw signed-zero refl
 last-digits true (suc k) h = rw (signed-minus k (omega arith)) (omega arith)
 
 top-bound : (m : ℕ) (e : ℤ) → T (le (fin false m e) (of 8191)) → m * up e ≤ 8191 * down e
-unfolding ofInt
 top-bound m e h =
-    let k : m * up e * 1 ≤ 8191 * down e = le→value (fin false m e) (of 8191) (m * up e) (down e) 8191 1 (down-pos e) (lit< tt) (refl, refl) (round-whole binary64 false 8191 (lit≤ tt)) h in
+    let k : m * up e * 1 ≤ 8191 * down e = le→value (fin false m e) (of 8191) (m * up e) (down e) 8191 1 (down-pos e) (lit< tt) (refl, refl) (whole-value binary64 8191 (lit≤ tt)) h in
     omega arith
 
 pub marked-is : (y : Float) → le (absOf y) (of 8191) ≡ true → T (lt ((y ⊕ (mark ⊖ (y ⊕ mark))) ⊗ (y ⊕ (mark ⊖ (y ⊕ mark)))) quarter) → y ⊕ mark ≡ roundOf y ⊕ mark

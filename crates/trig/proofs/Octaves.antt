@@ -1,28 +1,28 @@
 -- A number above 0 as m·2^e with 0.75 ≤ m < 1.5: `split` proves it of the definition, subnormal numbers included, and `by-bits` that a bit pattern of a normal number holds m and e. Assumes nothing.
 use mathlib.Core.Path.{_≡_, refl, sym, ap, _∙_, subst}
-use mathlib.Core.Logic.{_⊎_, inl, inr}
-use Prim.Native.Nat.{ℕ, zero, suc, _+_, _-_, _*_, _/_, _%_, _^_, _≤_, _<_}
-use native.Mathlib.Nat.{le-trans, le-of-eq, le-of-lt, le-of-suc-le-suc, lt-of-not-le, not-le-of-lt, lt-of-lt-of-le, lt-of-le-of-lt, zero-lt-suc, mul-pos, mul-one, one-mul, mul-comm, mul-assoc, mul-left-comm, mul-right-comm, mul-mul-mul-comm, mul-le-mul-left, mul-le-mul-right, mul-lt-mul-of-pos-right, lt-of-mul-lt-mul-right, eq-of-mul-eq-mul-right, mul-div-cancel, div-add-mod', mod-lt, le-div-iff-mul-le, div-lt-iff-lt-mul, zero-add, pow-succ'}
+use Prim.Native.Nat.{ℕ, suc, _+_, _-_, _*_, _/_, _%_, _^_, _≤_, _<_}
+use native.Mathlib.Nat.{le-trans, le-of-eq, le-of-suc-le-suc, lt-of-not-le, not-le-of-lt, lt-of-lt-of-le, mul-one, one-mul, mul-comm, mul-assoc, mul-right-comm, mul-mul-mul-comm, mul-le-mul-right, mul-lt-mul-of-pos-right, eq-of-mul-eq-mul-right, mul-div-cancel, div-add-mod', mod-lt, le-div-iff-mul-le, div-lt-iff-lt-mul, pow-succ'}
 use native.Mathlib.Omega.{arith}
-use mathlib.Core.Bool.{Bool, true, false, not, _&&_, cond, true≢false}
-use lib.IntN.{ℤ, pos, negsuc, _+ℤ_, subℕ}
-use lib.Dec.{T, leb, ltb, leb→le, nleb→lt, ltb→lt, nltb→le, lit<, lit≤}
+use mathlib.Core.Bool.{Bool, true, false, not, cond}
+use lib.IntN.{ℤ, pos, negsuc, _+ℤ_}
+use lib.Dec.{T, leb, ltb, leb→le, nleb→lt, ltb→lt, nltb→le, lit<}
 use lib.Pow.{pow-add, pow-pos, pow-mono, pow-lt}
-use borrow.Author.Tests.{le-leb, lt-leb, le-ltb, lt-ltb}
-use lib.Ieee.{Float, nan, inf, fin, binary64, up, down, minus, size, round, sum, sub, lt, le, fits, ofInt, ofBits, toBits}
-use lib.Ieee.Digits.{minus-val, size-lt, size-le, size-reaches, back}
+use borrow.Author.Tests.{le-leb, lt-leb}
+use lib.Ieee.{Float, nan, inf, fin, binary64, up, down, minus, size, round, sum, fits, ofInt, ofBits, toBits}
+use lib.Ieee.Digits.{size-lt, size-le, size-reaches, back}
 use lib.Ieee.Fits.{down-pos}
 use lib.Ieee.Bits.{ofBits-fits}
 use lib.Ieee.Exact.{HasValue, round-exact}
 use lib.Ieee.Order.{le-of-values}
-use lib.Ieee.Back.{round-whole}
 use Rattle.float.specs.Ops.{of, fraction, _⊖_}
 use Rattle.float.proofs.Exactly.{fits-says, round-value}
 use Rattle.float.proofs.Cuts.{revalue}
 use Rattle.float.proofs.Compared.{cross→lt}
 use Rattle.trig.specs.Log.{octave, mantissaOf, exponentOf, Split}
-use Rattle.trig.proofs.Fractions.{sub-at}
-use Rattle.trig.proofs.Patterns.{size-gt, pattern-is, normal-value}
+use Rattle.float.proofs.Counts.{whole-value}
+use Rattle.float.proofs.Digits.{size-gt}
+use Rattle.float.proofs.Sums.{sub-over}
+use Rattle.trig.proofs.Patterns.{pattern-is, normal-value}
 
 -- ---- a - b as a whole number
 minus-up : (a b : ℕ) → b ≤ a → minus a b ≡ pos (a - b)
@@ -85,10 +85,6 @@ minus-plus x b k =
         over-le x b k h l = omega arith
 
 -- whole numbers' difference is exact
-whole-value : (n : ℕ) → n ≤ 2 ^ 53 → HasValue (of n) false n 1
-unfolding ofInt
-whole-value n h = round-whole binary64 false n h
-
 of-pos : (n : ℕ) → round binary64 false n 1 ≡ ofInt binary64 (pos n)
 unfolding ofInt
 of-pos n = refl
@@ -100,9 +96,7 @@ of-negsuc n = refl
 pub whole-less : (a b : ℕ) → a ≤ 2 ^ 53 → b ≤ 2 ^ 53 → of a ⊖ of b ≡ ofInt binary64 (minus a b)
 unfolding sum
 whole-less a b h k =
-    sub-at binary64 (of a) (of b) false false a 1 b 1 (lit< tt) (lit< tt) (whole-value a h) (whole-value b k)
-    ∙ ap (λ (z : ℕ). sum binary64 false z true (b * 1) 1) (mul-one a)
-    ∙ ap (λ (z : ℕ). sum binary64 false a true z 1) (mul-one b)
+    sub-over binary64 (of a) (of b) false false a b 1 (lit< tt) (whole-value binary64 a h) (whole-value binary64 b k)
     ∙ go (ltb a b) (ltb→lt a b) (nltb→le a b)
   where
     go : (t : Bool) → (T t → a < b) → (T (not t) → b ≤ a) → cond t (round binary64 true (b - a) 1) (round binary64 false (a - b) 1) ≡ ofInt binary64 (minus a b)

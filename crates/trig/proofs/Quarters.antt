@@ -1,16 +1,15 @@
 -- The table of a quarter serves the whole turn: where the code looks, and with which sign, is the quarter symmetry of `sineAt`, and 1,024 places further within a turn is i + 1024. Assumes nothing.
-use mathlib.Core.Path.{_≡_, refl, sym, ap, _∙_}
-use mathlib.Core.Logic.{_⊎_, inl, inr}
-use Prim.Native.Nat.{ℕ, zero, suc, _+_, _-_, _*_, _%_, _≤_, _<_}
+use mathlib.Core.Path.{_≡_, refl, sym, ap}
+use Prim.Native.Nat.{ℕ, suc, _+_, _-_, _*_, _%_, _≤_, _<_}
 use native.Mathlib.Omega.{arith}
-use mathlib.Core.Bool.{Bool, true, false, not, _&&_, _||_, cond, true≢false}
-use lib.IntN.{ℤ, pos, negsuc, _+ℤ_, subℕ}
+use mathlib.Core.Bool.{Bool, true, false, not, _&&_, _||_, cond}
+use lib.IntN.{ℤ, pos, negsuc, _+ℤ_}
 use lib.Dec.{T, eqb→eq, leb, ltb, eqb, leb→le, nleb→lt, ltb→lt, nltb→le}
-use borrow.Author.Tests.{lt-ltb, le-leb, lt-leb}
+use borrow.Author.Tests.{lt-ltb}
 use lib.Ieee.{Float, nan, inf, fin, up, down, neg, lt, le, eq}
 use lib.Ieee.Fits.{down-pos, eq→eqb}
 use Rattle.float.specs.Ops.{absOf}
-use Rattle.trig.proofs.Fractions.{iff}
+use Rattle.float.proofs.Compared.{same-truth}
 use Rattle.trig.specs.Trig.{entryOf, sineAt, within}
 
 -- ---- the place in the first quarter
@@ -69,7 +68,7 @@ further (negsuc n) = go (ltb 1024 (suc n)) (ltb→lt 1024 (suc n)) (nltb→le 10
 
 -- ---- |x| ≤ 7 by two tests
 flip : (a b : ℕ) → eqb a b ≡ eqb b a
-flip a b = iff (eqb a b) (eqb b a) (λ t. eq→eqb (sym (eqb→eq a b t))) (λ t. eq→eqb (sym (eqb→eq b a t)))
+flip a b = same-truth (eqb a b) (eqb b a) (λ t. eq→eqb (sym (eqb→eq a b t))) (λ t. eq→eqb (sym (eqb→eq b a t)))
 
 mirror : (m : ℕ) (e : ℤ) → le (fin true 7 (pos 0)) (fin true m e) ≡ le (fin false m e) (fin false 7 (pos 0))
 unfolding le lt eq

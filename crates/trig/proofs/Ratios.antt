@@ -1,13 +1,13 @@
 -- The smaller over the larger of two sizes is at most 1, or a NaN, so that round(64t) is a place of the arctangents' table. Assumes nothing.
 use mathlib.Core.Path.{_≡_, refl, sym, ap, _∙_, subst}
 use mathlib.Core.Logic.{_⊎_, inl, inr}
-use Prim.Native.Nat.{ℕ, zero, suc, _+_, _*_, _/_, _%_, _^_, _≤_, _<_}
+use Prim.Native.Nat.{ℕ, zero, suc, _*_, _^_, _≤_, _<_}
 use native.Mathlib.Nat.{le-trans, le-of-eq, le-of-lt, lt-irrefl, lt-of-lt-of-le, le-of-suc-le-suc, div-lt-iff-lt-mul, zero-mul, mul-pos, mul-one, one-mul, zero-lt-suc}
 use native.Mathlib.Omega.{arith}
 use mathlib.Core.Bool.{Bool, true, false, not, cond}
-use lib.IntN.{ℤ, pos, negsuc}
+use lib.IntN.{ℤ, pos}
 use lib.Dec.{T, ltb, eqb, ltb→lt, nltb→le, eqb·suc-zero, lit<, lit≤}
-use lib.Ieee.{Float, nan, inf, fin, binary64, up, down, unlike, round, mul, div, lt, le, ofInt, toUnsigned}
+use lib.Ieee.{Float, nan, inf, fin, binary64, up, down, round, mul, div, lt, le, ofInt, toUnsigned}
 use lib.Ieee.Fits.{up-pos, down-pos}
 use lib.Ieee.Bits.{cond-no}
 use lib.Ieee.Exact.{HasValue}
@@ -18,7 +18,9 @@ use Rattle.float.specs.Whole.{halfUp, roundOf, wholeBy}
 use Rattle.float.proofs.Compared.{le→value}
 use Rattle.trig.proofs.Marks.{in-float}
 use Rattle.trig.specs.Arg.{ratioOf, stepOf}
-use Rattle.trig.proofs.Fractions.{mul-at, shape}
+use Rattle.float.proofs.Counts.{whole-value}
+use Rattle.float.proofs.Sums.{mul-over}
+use Rattle.trig.proofs.Fractions.{shape}
 
 -- a NaN, or a number from 0 to w
 abbrev UpTo : ℕ → Float → Type 0
@@ -77,8 +79,7 @@ ratio (fin s m e) (fin t n g) = go (ltb (m * up e * down g) (n * up g * down e))
 
 -- ---- 64 times as much, rounded
 sixty-four : HasValue (of 64) false 64 1
-unfolding ofInt
-sixty-four = round-whole binary64 false 64 (lit≤ tt)
+sixty-four = whole-value binary64 64 (lit≤ tt)
 
 times : (t : Float) → UpTo 1 t → UpTo 64 (of 64 ⊗ t)
 unfolding mul ofInt
@@ -86,7 +87,7 @@ times t (inl h) = inl (ap (λ (z : Float). of 64 ⊗ z) h)
 times t (inr h) =
     let a = h .0 * up (h .1) in
     let c = down (h .1) in
-    subst (UpTo 64) (sym (ap (λ (z : Float). of 64 ⊗ z) (h .2) ∙ mul-at binary64 (of 64) (fin false (h .0) (h .1)) false false 64 1 a c (lit< tt) (down-pos (h .1)) sixty-four (refl, refl)))
+    subst (UpTo 64) (sym (ap (λ (z : Float). of 64 ⊗ z) (h .2) ∙ mul-over binary64 (of 64) (fin false (h .0) (h .1)) false false 64 1 a c (lit< tt) (down-pos (h .1)) sixty-four (refl, refl)))
     (rounded 64 (64 * a) (1 * c) (mul-pos (lit< tt) (down-pos (h .1))) (lit≤ tt) (scale a c (h .3)))
   where
     scale : (a c : ℕ) → a ≤ 1 * c → 64 * a ≤ 64 * (1 * c)

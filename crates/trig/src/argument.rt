@@ -4,7 +4,6 @@ use crate::table::ARCTAN;
 ghost use mathlib.Core.Path.{_≡_};
 ghost use Prim.Native.Nat.{_<_, _≤_};
 ghost use lib.Ieee.{toUnsigned};
-ghost use Rattle.float.specs.Ops.{absOf};
 ghost use Rattle.trig.specs.Arg.{ratioOf, stepOf, awayOf, smallArctan, arctanAt, arctanOf, reflected, argOf};
 
 const PI: f64 = 3.14159265358979323846264338327950288;
@@ -27,7 +26,7 @@ fn entry(j: usize) -> f64
     ensures { λ r. ⌜ r ≡ arctanAt j ⌝ }
 {
     let table = ARCTAN;
-    float::whole::exact(table[j] as usize) / 4503599627370496.0
+    float::exact(table[j] as usize) / 4503599627370496.0
 }
 
 // The arctangent of t by the nearest 64th.
@@ -40,24 +39,11 @@ fn arctan(t: f64) -> f64
     entry(float::to_whole(j)) + small_arctan(u)
 }
 
-// Rust: f64::abs.
-fn abs(x: f64) -> f64
-    ensures { λ r. ⌜ r ≡ absOf x ⌝ }
-{
-    if x < 0.0 {
-        return -x;
-    }
-    if x == 0.0 {
-        return 0.0;
-    }
-    x
-}
-
 fn nonzero(re: f64, im: f64) -> f64
     ensures { λ r. ⌜ r ≡ reflected re im (arctanOf (ratioOf re im)) ⌝ }
 {
-    let a = abs(re);
-    let b = abs(im);
+    let a = float::abs(re);
+    let b = float::abs(im);
     let v = arctan(pick(a < b, a / b, b / a));
     let w = pick(a < b, PI / 2.0 - v, v);
     let z = pick(re < 0.0, PI - w, w);

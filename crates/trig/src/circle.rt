@@ -67,7 +67,7 @@ fn entry(sine: &[u64; 1025], k: usize) -> f64
     requires { ⌜ k < 1025 ⌝ }
     ensures { λ r. ⌜ r ≡ entryOf k ⌝ }
 {
-    float::whole::exact(sine[k] as usize) / 4503599627370496.0
+    float::exact(sine[k] as usize) / 4503599627370496.0
 }
 
 // The place in the first quarter that has the same sine, but for the sign.
@@ -111,7 +111,7 @@ fn within_seven(x: f64, sine: &[u64; 1025]) -> SinCos
     }
 }
 
-// The table is lent, so that the outermost caller makes it once: `let sine = trig::SINE;`.
+// The table is lent, so that the outermost caller makes it once: `let sine = trig::sine_table();`.
 pub fn sin_cos(x: f64, sine: &[u64; 1025]) -> SinCos
     requires { ⌜ now sine ≡ sineTable ⌝ }
     ensures { λ r. ⌜ (r .sin ≡ sinOf x) × (r .cos ≡ cosOf x) ⌝ }

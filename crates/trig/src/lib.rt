@@ -12,3 +12,4 @@ pub use circle::sin;
 pub use circle::sin_cos;
 pub use logarithm::log10;
 pub use table::SINE;
+pub use table::sine_table;

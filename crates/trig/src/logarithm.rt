@@ -50,7 +50,7 @@ fn log_bits(b: u64, bias: f64) -> f64
     let t = b % 4503599627370496;
     let half = t / 2251799813685248;
     let m = f64::from_bits((1023 - half) * 4503599627370496 + t);
-    let e = float::whole::exact((b / 4503599627370496 + half) as usize) - bias;
+    let e = float::exact((b / 4503599627370496 + half) as usize) - bias;
     log_parts(m, e)
 }
 

@@ -7,13 +7,6 @@ use Rattle.trig.specs.Arg.{arctanOf}
 use borrow.Author.Needs.{needs}
 use Rattle.trig.proofs.argument.arctan.Statement.{statement}
 use Rattle.trig.proofs.argument.arctan.Tie as tie
-use Rattle.trig.proofs.argument.arctan.Reads as reads
-use Rattle.trig.proofs.argument.arctan.Lts as lts
-use Rattle.float.proofs.round.Reads as round-reads
-use Rattle.float.proofs.to_whole.Reads as to-whole-reads
-use Rattle.trig.proofs.argument.away.Reads as away-reads
-use Rattle.trig.proofs.argument.entry.Reads as entry-reads
-use Rattle.trig.proofs.argument.small_arctan.Reads as small-arctan-reads
 
 round-requires : tie.Need-round-requires
 round-requires c κs = search needs

@@ -4,9 +4,6 @@ use Rattle.trig.specs.Arg.{argOf}
 use borrow.Author.Needs.{needs}
 use Rattle.trig.proofs.argument.arg.Statement.{statement}
 use Rattle.trig.proofs.argument.arg.Tie as tie
-use Rattle.trig.proofs.argument.arg.Reads as reads
-use Rattle.trig.proofs.argument.arg.Lts as lts
-use Rattle.trig.proofs.argument.nonzero.Reads as nonzero-reads
 
 returns : tie.Need-returns
 unfolding argOf

@@ -3,8 +3,6 @@ use mathlib.Core.Path.{refl}
 use lib.Ieee.{ofBits, ofInt}
 use Rattle.trig.proofs.argument.away.Statement.{statement}
 use Rattle.trig.proofs.argument.away.Tie as tie
-use Rattle.trig.proofs.argument.away.Reads as reads
-use Rattle.trig.proofs.argument.away.Lts as lts
 
 returns : tie.Need-returns
 unfolding ofBits ofInt

@@ -5,9 +5,6 @@ use Rattle.trig.proofs.Rules.{arctan-small}
 use borrow.Author.Needs.{needs}
 use Rattle.trig.proofs.argument.entry.Statement.{statement}
 use Rattle.trig.proofs.argument.entry.Tie as tie
-use Rattle.trig.proofs.argument.entry.Reads as reads
-use Rattle.trig.proofs.argument.entry.Lts as lts
-use Rattle.float.proofs.whole.exact.Reads as exact-reads
 
 mul-exact : tie.Need-mul-exact
 mul-exact c = search needs

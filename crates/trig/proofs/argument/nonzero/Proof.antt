@@ -5,11 +5,6 @@ use Rattle.trig.proofs.Ratios.{step-small}
 use borrow.Author.Needs.{needs}
 use Rattle.trig.proofs.argument.nonzero.Statement.{statement}
 use Rattle.trig.proofs.argument.nonzero.Tie as tie
-use Rattle.trig.proofs.argument.nonzero.Reads as reads
-use Rattle.trig.proofs.argument.nonzero.Lts as lts
-use Rattle.trig.proofs.argument.abs.Reads as abs-reads
-use Rattle.trig.proofs.argument.arctan.Reads as arctan-reads
-use Rattle.trig.proofs.choice.pick.Reads as pick-reads
 
 abs-requires : tie.Need-abs-requires
 abs-requires c κs = search needs

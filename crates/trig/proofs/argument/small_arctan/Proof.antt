@@ -3,8 +3,6 @@ use mathlib.Core.Path.{refl}
 use lib.Ieee.{ofBits, ofInt}
 use Rattle.trig.proofs.argument.small_arctan.Statement.{statement}
 use Rattle.trig.proofs.argument.small_arctan.Tie as tie
-use Rattle.trig.proofs.argument.small_arctan.Reads as reads
-use Rattle.trig.proofs.argument.small_arctan.Lts as lts
 
 returns : tie.Need-returns
 unfolding ofBits ofInt

@@ -4,9 +4,6 @@ use Rattle.trig.proofs.Rules.{sine-small}
 use borrow.Author.Needs.{needs}
 use Rattle.trig.proofs.circle.entry.Statement.{statement}
 use Rattle.trig.proofs.circle.entry.Tie as tie
-use Rattle.trig.proofs.circle.entry.Reads as reads
-use Rattle.trig.proofs.circle.entry.Lts as lts
-use Rattle.float.proofs.whole.exact.Reads as exact-reads
 
 mul-exact : tie.Need-mul-exact
 mul-exact c = search needs

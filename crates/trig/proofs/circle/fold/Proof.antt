@@ -4,8 +4,6 @@ use borrow.Author.Tests.{le-leb, lt-leb}
 use borrow.Author.Needs.{needs}
 use Rattle.trig.proofs.circle.fold.Statement.{statement}
 use Rattle.trig.proofs.circle.fold.Tie as tie
-use Rattle.trig.proofs.circle.fold.Reads as reads
-use Rattle.trig.proofs.circle.fold.Lts as lts
 
 sub-result : tie.Need-sub-result
 sub-result c = search needs

@@ -1,5 +1,5 @@
 -- `trig::circle::marked` meets its contract. Assumes nothing.
-use mathlib.Core.Path.{_≡_, ap}
+use mathlib.Core.Path.{ap}
 use lib.Ieee.{Float, ofBits, ofInt}
 use Rattle.float.specs.Ops.{_⊕_}
 use Rattle.float.proofs.Compared.{yes}
@@ -7,9 +7,6 @@ use Rattle.trig.proofs.Marks.{mark, marked-is}
 use borrow.Author.Needs.{needs}
 use Rattle.trig.proofs.circle.marked.Statement.{statement}
 use Rattle.trig.proofs.circle.marked.Tie as tie
-use Rattle.trig.proofs.circle.marked.Reads as reads
-use Rattle.trig.proofs.circle.marked.Lts as lts
-use Rattle.float.proofs.round.Reads as round-reads
 
 round-requires : tie.Need-round-requires
 round-requires c κs = search needs

@@ -1,14 +1,11 @@
 -- `trig::circle::sin_cos` meets its contract. Assumes nothing.
-use mathlib.Core.Path.{_≡_, _∙_}
+use mathlib.Core.Path.{_∙_}
 use lib.Ieee.{ofBits, ofInt, neg}
 use Rattle.trig.specs.Trig.{sinOf, cosOf}
 use Rattle.trig.proofs.Quarters.{two-tests}
 use borrow.Author.Needs.{needs}
 use Rattle.trig.proofs.circle.sin_cos.Statement.{statement}
 use Rattle.trig.proofs.circle.sin_cos.Tie as tie
-use Rattle.trig.proofs.circle.sin_cos.Reads as reads
-use Rattle.trig.proofs.circle.sin_cos.Lts as lts
-use Rattle.trig.proofs.circle.within_seven.Reads as within-seven-reads
 
 within-seven-requires : tie.Need-within-seven-requires
 unfolding ofBits ofInt neg

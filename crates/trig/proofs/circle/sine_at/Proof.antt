@@ -3,11 +3,6 @@ use Rattle.trig.proofs.Quarters.{quarters}
 use borrow.Author.Needs.{needs}
 use Rattle.trig.proofs.circle.sine_at.Statement.{statement}
 use Rattle.trig.proofs.circle.sine_at.Tie as tie
-use Rattle.trig.proofs.circle.sine_at.Reads as reads
-use Rattle.trig.proofs.circle.sine_at.Lts as lts
-use Rattle.trig.proofs.choice.pick.Reads as pick-reads
-use Rattle.trig.proofs.circle.entry.Reads as entry-reads
-use Rattle.trig.proofs.circle.fold.Reads as fold-reads
 
 fold-requires : tie.Need-fold-requires
 fold-requires c κs = search needs

@@ -3,8 +3,6 @@ use mathlib.Core.Path.{refl}
 use lib.Ieee.{ofBits, ofInt}
 use Rattle.trig.proofs.circle.small_sine.Statement.{statement}
 use Rattle.trig.proofs.circle.small_sine.Tie as tie
-use Rattle.trig.proofs.circle.small_sine.Reads as reads
-use Rattle.trig.proofs.circle.small_sine.Lts as lts
 
 returns : tie.Need-returns
 unfolding ofBits ofInt

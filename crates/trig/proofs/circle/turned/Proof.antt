@@ -5,9 +5,6 @@ use Rattle.trig.specs.Constants.{PI}
 use Rattle.trig.proofs.Angles.{scaled-small, place-number, place-is, rest-is}
 use Rattle.trig.proofs.circle.turned.Statement.{statement}
 use Rattle.trig.proofs.circle.turned.Tie as tie
-use Rattle.trig.proofs.circle.turned.Reads as reads
-use Rattle.trig.proofs.circle.turned.Lts as lts
-use Rattle.trig.proofs.circle.marked.Reads as marked-reads
 
 marked-requires : tie.Need-marked-requires
 unfolding ofBits ofInt PI

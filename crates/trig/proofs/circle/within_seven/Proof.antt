@@ -4,12 +4,6 @@ use Rattle.trig.proofs.Quarters.{further}
 use borrow.Author.Needs.{needs}
 use Rattle.trig.proofs.circle.within_seven.Statement.{statement}
 use Rattle.trig.proofs.circle.within_seven.Tie as tie
-use Rattle.trig.proofs.circle.within_seven.Reads as reads
-use Rattle.trig.proofs.circle.within_seven.Lts as lts
-use Rattle.trig.proofs.circle.sine_at.Reads as sine-at-reads
-use Rattle.trig.proofs.circle.small_cosine.Reads as small-cosine-reads
-use Rattle.trig.proofs.circle.small_sine.Reads as small-sine-reads
-use Rattle.trig.proofs.circle.turned.Reads as turned-reads
 
 turned-requires : tie.Need-turned-requires
 turned-requires c κs = search needs

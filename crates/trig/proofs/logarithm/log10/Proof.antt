@@ -1,14 +1,11 @@
 -- `trig::logarithm::log10` meets its contract. Assumes nothing.
-use mathlib.Core.Path.{_≡_, _∙_}
+use mathlib.Core.Path.{_∙_}
 use lib.Ieee.{ofBits, ofInt, div, neg}
 use Rattle.float.proofs.Compared.{yes, no}
 use Rattle.trig.proofs.Logs.{log-zero, log-none, log-infinite, log-normal, log-subnormal, above-number, raised-number}
 use borrow.Author.Needs.{needs}
 use Rattle.trig.proofs.logarithm.log10.Statement.{statement}
 use Rattle.trig.proofs.logarithm.log10.Tie as tie
-use Rattle.trig.proofs.logarithm.log10.Reads as reads
-use Rattle.trig.proofs.logarithm.log10.Lts as lts
-use Rattle.trig.proofs.logarithm.log_bits.Reads as log-bits-reads
 
 returns : tie.Need-returns
 unfolding ofBits div neg

@@ -1,13 +1,9 @@
 -- `trig::logarithm::log_bits` meets its contract. Assumes nothing.
 use native.Mathlib.Omega.{arith}
-use Rattle.trig.proofs.Patterns.{field-no-nan}
+use Rattle.float.proofs.Value.{no-nan-bits}
 use borrow.Author.Needs.{needs}
 use Rattle.trig.proofs.logarithm.log_bits.Statement.{statement}
 use Rattle.trig.proofs.logarithm.log_bits.Tie as tie
-use Rattle.trig.proofs.logarithm.log_bits.Reads as reads
-use Rattle.trig.proofs.logarithm.log_bits.Lts as lts
-use Rattle.float.proofs.whole.exact.Reads as exact-reads
-use Rattle.trig.proofs.logarithm.log_parts.Reads as log-parts-reads
 
 sub-m : tie.Need-sub-m
 sub-m c = search needs
@@ -19,7 +15,7 @@ add-m : tie.Need-add-m
 add-m c = search needs
 
 float-from-bits-m : tie.Need-float-from-bits-m
-float-from-bits-m c = field-no-nan _ (omega arith)
+float-from-bits-m c = no-nan-bits _ (omega arith)
 
 add-exact : tie.Need-add-exact
 add-exact c = search needs

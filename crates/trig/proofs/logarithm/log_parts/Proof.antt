@@ -5,9 +5,6 @@ use Rattle.trig.specs.Log.{logOf}
 use borrow.Author.Needs.{needs}
 use Rattle.trig.proofs.logarithm.log_parts.Statement.{statement}
 use Rattle.trig.proofs.logarithm.log_parts.Tie as tie
-use Rattle.trig.proofs.logarithm.log_parts.Reads as reads
-use Rattle.trig.proofs.logarithm.log_parts.Lts as lts
-use Rattle.trig.proofs.logarithm.sum.Reads as sum-reads
 
 sum-requires : tie.Need-sum-requires
 sum-requires c κs = search needs

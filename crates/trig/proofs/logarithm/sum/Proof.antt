@@ -4,8 +4,6 @@ use lib.Ieee.{ofBits, ofInt}
 use Rattle.trig.specs.Log.{series}
 use Rattle.trig.proofs.logarithm.sum.Statement.{statement}
 use Rattle.trig.proofs.logarithm.sum.Tie as tie
-use Rattle.trig.proofs.logarithm.sum.Reads as reads
-use Rattle.trig.proofs.logarithm.sum.Lts as lts
 
 returns : tie.Need-returns
 unfolding series ofBits ofInt
