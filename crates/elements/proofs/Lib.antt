@@ -4,6 +4,7 @@ pub mod Lists
 pub mod Keyed
 pub mod KeyDowns
 pub mod Same
+pub mod Stored
 pub mod Ways
 pub mod Bounds
 pub mod Laws

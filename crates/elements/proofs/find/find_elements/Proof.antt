@@ -64,23 +64,39 @@ percentile-requires c κs =
     simp (length-take, length-drop) (omega arith)
 
 returns-2 : tie.Need-returns-2
-returns-2 c = way-none _ _ _ _ (row-read _ _ _ _ _ _ _ (c .before .before .before .before .before .before .before .before .before .before .edge-step .ensures) (c .before .before .before .before .before .before .before .amplitudes .ensures) refl (room (c .before .before .before .before .before .before .before .before .before))) _ (c .before .before .percentile .ensures) _ (c .enum-told .given .1)
+returns-2 c =
+    let asked = c .before .before in
+    let filled = asked .before .before .before .before .before in
+    let whole = filled .before .before in
+    way-none _ _ _ _ (row-read _ _ _ _ _ _ _ (whole .before .edge-step .ensures) (filled .amplitudes .ensures) refl (room whole)) _ (asked .percentile .ensures) _ (c .enum-told .given .1)
 
 scan-requires : tie.Need-scan-requires
 scan-requires c κs =
-    let p = passed (c .before .before .before .before .before .before .before .before .before .before .before .before) in
-    let size = row-size _ _ _ _ _ (row-read _ _ _ _ _ _ _ (c .before .before .before .before .before .before .before .before .before .before .before .before .before .edge-step .ensures) (c .before .before .before .before .before .before .before .before .before .before .amplitudes .ensures) refl (room (c .before .before .before .before .before .before .before .before .before .before .before .before))) p in
+    let filled = c .before .before .before .before .before .before .before .before .before .before in
+    let whole = filled .before .before in
+    let p = passed whole in
+    let size = row-size _ _ _ _ _ (row-read _ _ _ _ _ _ _ (whole .before .edge-step .ensures) (filled .amplitudes .ensures) refl (room whole)) p in
     ((omega arith, omega arith), omega arith)
 
 returns-3 : tie.Need-returns-3
 returns-3 c =
-    let p = passed (c .before .before .before .before .before .before .before .before .before .before .before .before .before .before .before) in
-    let read = (row-read _ _ _ _ _ _ _ (c .before .before .before .before .before .before .before .before .before .before .before .before .before .before .before .before .edge-step .ensures) (c .before .before .before .before .before .before .before .before .before .before .before .before .before .amplitudes .ensures) refl (room (c .before .before .before .before .before .before .before .before .before .before .before .before .before .before .before))) in
+    let tested = c .before .before .before .before in
+    let top = tested .before .before in
+    let asked = top .before .before in
+    let filled = asked .before .before .before .before .before in
+    let whole = filled .before .before in
+    let p = passed whole in
+    let read = row-read _ _ _ _ _ _ _ (whole .before .edge-step .ensures) (filled .amplitudes .ensures) refl (room whole) in
     let size = row-size _ _ _ _ _ read p in
-    way-found _ _ _ _ read _ (c .before .before .before .before .before .before .before .before .percentile .ensures) _ _ _ _ _ (c .before .before .before .before .before .before .before .before .before .before .before .before .before .before .before .before .edge-step .ensures) (omega arith) (c .before .before .before .before .before .before .top .given .1) (c .before .before .before .before .if2 .taken) (c .before .before .scan .ensures)
+    way-found _ _ _ _ read _ (asked .percentile .ensures) _ _ _ _ _ (whole .before .edge-step .ensures) (omega arith) (top .top .given .1) (tested .if2 .taken) (c .before .before .scan .ensures)
 
 returns-4 : tie.Need-returns-4
-returns-4 c = way-low _ _ _ _ (row-read _ _ _ _ _ _ _ (c .before .before .before .before .before .before .before .before .before .before .before .before .edge-step .ensures) (c .before .before .before .before .before .before .before .before .before .amplitudes .ensures) refl (room (c .before .before .before .before .before .before .before .before .before .before .before))) _ (c .before .before .before .before .percentile .ensures) _ _ (c .before .before .top .given .1) (c .if2 .left)
+returns-4 c =
+    let top = c .before .before in
+    let asked = top .before .before in
+    let filled = asked .before .before .before .before .before in
+    let whole = filled .before .before in
+    way-low _ _ _ _ (row-read _ _ _ _ _ _ _ (whole .before .edge-step .ensures) (filled .amplitudes .ensures) refl (room whole)) _ (asked .percentile .ensures) _ _ (top .top .given .1) (c .if2 .left)
 
 pub find-elements-spec : {M : Type 1} → statement M
 find-elements-spec =
