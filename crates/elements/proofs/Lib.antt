@@ -7,4 +7,5 @@ pub mod Same
 pub mod Stored
 pub mod Ways
 pub mod Bounds
+pub mod Recording
 pub mod Laws

@@ -1,14 +1,13 @@
 -- Lists of key-downs and of elements: what each count and each store is over one list put behind another. Assumes nothing.
-use Prim.Native.Nat.{ℕ, zero, suc, _+_, _-_, _*_, _≤_, _<_}
+use Prim.Native.Nat.{ℕ, suc, _+_, _-_, _*_, _≤_}
 use native.Mathlib.Nat.{add-mul}
 use native.Mathlib.Omega.{arith}
-use mathlib.Core.Path.{_≡_, refl, sym, ap, _∙_}
+use mathlib.Core.Path.{_≡_, refl, _∙_}
 use mathlib.Core.Bool.{Bool, true, false, not, cond}
 use mathlib.Core.List.{List, [], _∷_, _++_, map}
-use lib.ListN.{length, getD, set, length-append, length-set}
-use lib.Ieee.{Float, nan}
+use lib.ListN.{length, length-append, length-set}
+use lib.Ieee.{Float}
 use Rattle.elements.specs.declared.element.KeyedElement.{KeyedElement}
-use Rattle.elements.specs.declared.keying.Found.{Found}
 use Rattle.elements.specs.Crossings.{KeyDown}
 use Rattle.elements.specs.Times.{elementOf, long}
 use Rattle.elements.specs.Found.{those, airtimeOf, listedOf, shortOf, counts, elementsOf, foundPlus, putElement, storedFrom}

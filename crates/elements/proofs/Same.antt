@@ -1,14 +1,14 @@
 -- Two rows that agree at every position up to `last` have the same key-downs, counts and elements there. Assumes nothing.
-use Prim.Native.Nat.{ℕ, zero, suc, _-_, _≤_, _<_}
+use Prim.Native.Nat.{ℕ, zero, suc, _-_, _≤_}
 use native.Mathlib.Omega.{arith}
-use mathlib.Core.Path.{_≡_, refl, sym, ap, _∙_}
+use mathlib.Core.Path.{_≡_, refl, ap}
 use mathlib.Core.Bool.{Bool, not}
 use mathlib.Core.List.{List, [], _∷_, map, List·Memᴰ, List·Memᴰ·head, List·Memᴰ·tail}
 use lib.Ieee.{Float}
 use Rattle.elements.specs.declared.element.KeyedElement.{KeyedElement}
 use Rattle.elements.specs.Crossings.{upward, downward, KeyDown, pending, keyDowns}
-use Rattle.elements.specs.Times.{crossedAt, elementOf, isLong, long}
-use Rattle.elements.specs.Found.{those, airtimeOf, listedOf, shortOf, counts, elementsOf, foundTo, elementsTo}
+use Rattle.elements.specs.Times.{crossedAt, elementOf, long}
+use Rattle.elements.specs.Found.{those, listedOf, shortOf, counts, elementsOf, foundTo, elementsTo}
 use Rattle.elements.proofs.KeyDowns.{members, those-are}
 
 those-same : (p q : KeyDown → Bool) (ks : List KeyDown) → ((k : KeyDown) → List·Memᴰ k ks → p k ≡ q k) → those p ks ≡ those q ks

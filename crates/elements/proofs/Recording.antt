@@ -1,0 +1,68 @@
+-- What `find_elements` answers of a recording, in the terms of document 01, part 3. For every recording, rate and carrier. Assumes nothing.
+use Prim.Native.Nat.{ℕ, _+_, _-_, _*_, _/_, _≤_}
+use native.Mathlib.Omega.{arith}
+use mathlib.Core.Path.{_≡_, refl, sym}
+use mathlib.Core.Bool.{true}
+use mathlib.Core.List.{List, List·Memᴰ, Memᴰ·map}
+use lib.ListN.{length, length-map}
+use lib.Ieee.{Float}
+use Rattle.row.specs.Window.{stepOf, stepBlocks}
+use Rattle.row.specs.Amplitudes.{rowOf, rowLength}
+use Rattle.rank.specs.declared.Percentile.{Percentile}
+use Rattle.rank.specs.declared.Percentile.the-variants.{Value, Nothing}
+use Rattle.elements.specs.Crossings.{KeyDown, keyDowns}
+use Rattle.elements.specs.Times.{elementOf, long}
+use Rattle.elements.specs.Found.{listedOf, counts, elementsOf, foundTo, elementsTo}
+use Rattle.elements.specs.Find.{thresholdOf, keyDownsAt, foundAt, elementsAt, keyDownsOf, foundOf, elementsFound}
+use Rattle.elements.proofs.KeyDowns.{listed-is, balance, places}
+
+module _ (row : ℕ → Float) (last step : ℕ) (fs : Float) where
+  keys-at : (p : Percentile) → foundAt row last step fs p .«key_downs» ≡ length (keyDownsAt row last step fs p)
+  unfolding foundTo counts
+  keys-at (Value thr) = refl
+  keys-at Nothing = refl
+
+  listed-at : (p : Percentile) → foundAt row last step fs p .listed ≡ length (elementsAt row last step fs p)
+  unfolding foundTo counts elementsTo elementsOf
+  listed-at (Value thr) = sym (length-map (listedOf row thr step fs (keyDowns row thr last)) (elementOf row thr step))
+  listed-at Nothing = refl
+
+  balance-at : (p : Percentile) → foundAt row last step fs p .«key_downs» ≡ foundAt row last step fs p .listed + foundAt row last step fs p .short
+  balance-at (Value thr) = balance row thr step fs last
+  balance-at Nothing = refl
+
+  few-at : (p : Percentile) → 2 * length (keyDownsAt row last step fs p) ≤ last
+  few-at (Value thr) = places row thr last
+  few-at Nothing = omega arith
+
+module _ (iq : List Float) (fs carrier : Float) where
+  -- Key-downs and listed, as counts, are how many of each there are, and each key-down is listed or short.
+  pub key-downs-counted : foundOf iq fs carrier .«key_downs» ≡ length (keyDownsOf iq fs carrier)
+  unfolding foundOf keyDownsOf
+  key-downs-counted = keys-at (rowOf iq fs carrier) (rowLength iq fs - 1) (stepOf fs) fs (thresholdOf iq fs carrier)
+
+  pub listed-counted : foundOf iq fs carrier .listed ≡ length (elementsFound iq fs carrier)
+  unfolding foundOf elementsFound
+  listed-counted = listed-at (rowOf iq fs carrier) (rowLength iq fs - 1) (stepOf fs) fs (thresholdOf iq fs carrier)
+
+  pub all-counted : foundOf iq fs carrier .«key_downs» ≡ foundOf iq fs carrier .listed + foundOf iq fs carrier .short
+  unfolding foundOf
+  all-counted = balance-at (rowOf iq fs carrier) (rowLength iq fs - 1) (stepOf fs) fs (thresholdOf iq fs carrier)
+
+  -- floor(B/2) places are enough
+  pub enough-places : foundOf iq fs carrier .«key_downs» ≤ stepBlocks iq fs / 2
+  unfolding keyDownsOf
+  enough-places =
+      let few = few-at (rowOf iq fs carrier) (rowLength iq fs - 1) (stepOf fs) fs (thresholdOf iq fs carrier) in
+      let many = key-downs-counted in
+      omega arith
+
+  -- A key-down of the recording that is long is one of the elements found.
+  pub long-listed : (thr : Float) (k : KeyDown) → thresholdOf iq fs carrier ≡ Value thr → List·Memᴰ k (keyDownsOf iq fs carrier)
+      → long (rowOf iq fs carrier) thr (stepOf fs) fs k ≡ true → List·Memᴰ (elementOf (rowOf iq fs carrier) thr (stepOf fs) k) (elementsFound iq fs carrier)
+  unfolding keyDownsOf elementsFound elementsTo elementsOf
+  long-listed thr k at m so =
+      let row = rowOf iq fs carrier in
+      let ks = keyDowns row thr (rowLength iq fs - 1) in
+      let m' = rw at at m in
+      rw at (Memᴰ·map (elementOf row thr (stepOf fs)) (listed-is row thr (stepOf fs) fs ks k .1 (m', so)))
