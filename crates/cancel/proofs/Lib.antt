@@ -1,0 +1,5 @@
+-- Laws that the proofs of `cancel` share.
+pub mod Numbers
+pub mod FirstNo
+pub mod Given
+pub mod Accepted

@@ -1,0 +1,39 @@
+-- `cancel::find_elements` meets its contract: the first no is the answer, and where there is none, what the work below finds. Assumes nothing.
+use mathlib.Core.Path.{_≡_, refl, sym, _∙_}
+use denote.Ref.{now}
+use lib.ListN.{length}
+use borrow.Author.Needs.{needs}
+use Rattle.trig.specs.Sine.{sineTable}
+use Rattle.cancel.specs.Questions.{firstNo, findQuestions}
+use Rattle.cancel.specs.Find.{findRule}
+use Rattle.cancel.proofs.Accepted.{find-accepted, refused, accepted}
+use Rattle.cancel.proofs.find.find_elements.Statement.{statement}
+use Rattle.cancel.proofs.find.find_elements.Tie as tie
+
+-- where no question was answered no
+all-yes : (c : tie.Else1) →
+    let s = c .before .before .before .before .before in
+    firstNo (findQuestions (now (s .args .iq)) (s .args .fs) (s .args .carrier-hz) (length (now (s .args .elements))) (length (now (s .args .work)))) ≡ 0
+all-yes c = sym (c .before .find-no .ensures) ∙ c .if1 .left
+
+find-elements-requires : tie.Need-find-elements-requires
+unfolding sineTable
+find-elements-requires c κs =
+    let s = c .before .before .before .before .before .before .before .before in
+    let known = find-accepted (now (s .args .iq)) (s .args .fs) (s .args .carrier-hz) (length (now (s .args .elements))) (length (now (s .args .work))) (all-yes (c .before .before .before)) in
+    (known .iq-ok, (known .rate-ok, (refl, (known .places, known .room))))
+
+returns : tie.Need-returns
+unfolding findRule
+returns c = refused _ _ _ _ _ (c .before .find-no .ensures) (c .if1 .taken) (rw (c .before .find-no .ensures))
+
+returns-2 : tie.Need-returns-2
+unfolding findRule
+returns-2 c =
+    let found = c .before .before .before .before in
+    let asked = found .before .before .before .before in
+    accepted _ _ _ _ _ (asked .before .find-no .ensures) (asked .if1 .left) (rw (found .find-elements .ensures .0, found .find-elements .ensures .1))
+
+pub find-elements-spec : {M : Type 1} → statement M
+find-elements-spec =
+    tie.close (tie.spec (λ c κs. search needs) returns find-elements-requires (λ c. search needs) (λ c. search needs) returns-2)

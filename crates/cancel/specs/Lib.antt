@@ -1,0 +1,4 @@
+-- What the contracts of `cancel` cite.
+pub mod Questions
+pub mod Answers
+pub mod Find
