@@ -23,7 +23,7 @@ use Rattle.float.proofs.Sums.{mul-over}
 use Rattle.trig.proofs.Fractions.{shape}
 
 -- a NaN, or a number from 0 to w
-abbrev UpTo : ℕ → Float → Type 0
+abbrev pub UpTo : ℕ → Float → Type 0
 UpTo w t = (t ≡ nan) ⊎ ((m : ℕ) × (e : ℤ) × (t ≡ fin false m e) × (m * up e ≤ w * down e))
 
 beyond : (x : Float) (w : ℕ) → HasValue x false w 1 → T (le (inf false) x) → ⊥
@@ -61,17 +61,18 @@ quotient m e (suc n) g h =
     subst (UpTo 1) (sym (cond-no (eqb (suc n) 0) (cond (eqb m 0) nan (inf false)) (round binary64 false (m * up e * down g) c) (subst (λ (b : Bool). T (not b)) (sym (eqb·suc-zero n)) tt)))
     (rounded 1 (m * up e * down g) c (mul-pos (mul-pos (zero-lt-suc n) (up-pos g)) (down-pos e)) (lit≤ tt) (le-trans h (le-of-eq (sym (one-mul c)))))
 
-ratio : (re im : Float) → UpTo 1 (ratioOf re im)
+-- t is at most 1, or a NaN
+pub ratio-small : (re im : Float) → UpTo 1 (ratioOf re im)
 unfolding absOf lt div
-ratio nan nan = inl refl
-ratio nan (inf t) = inl refl
-ratio nan (fin t n g) = inl refl
-ratio (inf s) nan = inl refl
-ratio (inf s) (inf t) = inl refl
-ratio (inf s) (fin t n g) = inr (0, pos 0, refl, lit≤ tt)
-ratio (fin s m e) nan = inl refl
-ratio (fin s m e) (inf t) = inr (0, pos 0, refl, lit≤ tt)
-ratio (fin s m e) (fin t n g) = go (ltb (m * up e * down g) (n * up g * down e)) (ltb→lt (m * up e * down g) (n * up g * down e)) (nltb→le (m * up e * down g) (n * up g * down e))
+ratio-small nan nan = inl refl
+ratio-small nan (inf t) = inl refl
+ratio-small nan (fin t n g) = inl refl
+ratio-small (inf s) nan = inl refl
+ratio-small (inf s) (inf t) = inl refl
+ratio-small (inf s) (fin t n g) = inr (0, pos 0, refl, lit≤ tt)
+ratio-small (fin s m e) nan = inl refl
+ratio-small (fin s m e) (inf t) = inr (0, pos 0, refl, lit≤ tt)
+ratio-small (fin s m e) (fin t n g) = go (ltb (m * up e * down g) (n * up g * down e)) (ltb→lt (m * up e * down g) (n * up g * down e)) (nltb→le (m * up e * down g) (n * up g * down e))
   where
     go : (b : Bool) → (T b → m * up e * down g < n * up g * down e) → (T (not b) → n * up g * down e ≤ m * up e * down g) → UpTo 1 (cond b (fin false m e ⊘ fin false n g) (fin false n g ⊘ fin false m e))
     go true h k = quotient m e n g (le-of-lt (h tt))
@@ -109,4 +110,4 @@ placed t (inr h) =
     le-trans (le-of-eq (ap (λ (z : Float). toUnsigned 64 (roundOf z)) (h .2) ∙ whole-back n l)) l
 
 pub step-small : (re im : Float) → toUnsigned 64 (stepOf (ratioOf re im)) ≤ 64
-step-small re im = placed (of 64 ⊗ ratioOf re im) (times (ratioOf re im) (ratio re im))
+step-small re im = placed (of 64 ⊗ ratioOf re im) (times (ratioOf re im) (ratio-small re im))
