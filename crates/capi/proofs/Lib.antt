@@ -1,0 +1,2 @@
+-- Laws that the proofs of `capi` share.
+pub mod Ways

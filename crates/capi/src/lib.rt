@@ -1,0 +1,3 @@
+// The C interface: include/cancel.h says the same for a reader of C.
+pub mod calls;
+pub mod functions;
