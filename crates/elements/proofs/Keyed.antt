@@ -14,7 +14,8 @@ use Rattle.elements.specs.declared.keying.Rising.the-variants.{At, Nothi
 use Rattle.elements.specs.declared.keying.Found.{Found}
 use Rattle.elements.specs.Crossings.{upward, downward, KeyDown, keyDown, pending, ended, keyDowns}
 use Rattle.elements.specs.Times.{elementOf, isLong, long}
-use Rattle.elements.specs.Found.{those, airtimeOf, listedOf, shortOf, counts, elementsOf, foundTo, elementsTo, foundPlus, oneListed, oneShort, none, Room, Kept, putElement, stored, storedFrom}
+use Rattle.elements.specs.Found.{those, airtimeOf, listedOf, shortOf, counts, elementsOf, foundTo, elementsTo, none, putElement, stored, storedFrom}
+use Rattle.elements.specs.Counting.{foundPlus, oneListed, oneShort, Room, Kept}
 use Rattle.elements.proofs.Compared.{apart}
 use Rattle.elements.proofs.Lists.{airtime-append, airtime-steps, those-shorter, those-less, counts-append, elements-append, length-stored, stored-append}
 

@@ -10,7 +10,8 @@ use lib.Ieee.{Float}
 use Rattle.elements.specs.declared.element.KeyedElement.{KeyedElement}
 use Rattle.elements.specs.Crossings.{KeyDown}
 use Rattle.elements.specs.Times.{elementOf, long}
-use Rattle.elements.specs.Found.{those, airtimeOf, listedOf, shortOf, counts, elementsOf, foundPlus, putElement, storedFrom}
+use Rattle.elements.specs.Found.{those, airtimeOf, listedOf, shortOf, counts, elementsOf, putElement, storedFrom}
+use Rattle.elements.specs.Counting.{foundPlus}
 
 cond-append : (t : Bool) (k : KeyDown) (a b : List KeyDown) → cond t (k ∷ (a ++ b)) (a ++ b) ≡ cond t (k ∷ a) a ++ b
 cond-append true k a b = refl

@@ -1,5 +1,5 @@
 -- What a row of amplitudes has: its key-downs, listed and short, as counts, the airtime, and the elements in the lent list (01, part 3). Definitions only.
-use Prim.Native.Nat.{ℕ, suc, _+_, _-_, _*_, _≤_, _<_}
+use Prim.Native.Nat.{ℕ, suc, _+_, _-_, _*_}
 use mathlib.Core.Bool.{Bool, not, cond}
 use mathlib.Core.List.{List, [], _∷_, map}
 use lib.ListN.{length, getD, set}
@@ -42,35 +42,9 @@ module _ (row : ℕ → Float) (thr : Float) (step : ℕ) (fs : Float) where
   unfoldable pub elementsTo : ℕ → List KeyedElement
   elementsTo j = elementsOf (keyDowns row thr j)
 
--- ---- counts one by one
-
--- nothing counted; two counts together; the count of one listed key-down of so many samples, and of one short key-down
+-- nothing found
 abbrev pub none : Found
 none = record { «key_downs» = 0; listed = 0; short = 0; airtime = 0 }
-
-abbrev pub foundPlus : Found → Found → Found
-foundPlus a b =
-    record { «key_downs» = a .«key_downs» + b .«key_downs»; listed = a .listed + b .listed; short = a .short + b .short; airtime = a .airtime + b .airtime }
-
-abbrev pub oneListed : ℕ → Found
-oneListed samples = record { «key_downs» = 1; listed = 1; short = 0; airtime = samples }
-
-abbrev pub oneShort : Found
-oneShort = record { «key_downs» = 1; listed = 0; short = 1; airtime = 0 }
-
--- the counts of a row of at most 2^20 amplitudes, at most 64 samples apart, are this small
-pub record Room (a : Found) : Type 0 where
-  pub keys : a .«key_downs» ≤ 1048576
-  pub long : a .listed ≤ 1048576
-  pub brief : a .short ≤ 1048576
-  pub air : a .airtime ≤ 67108864
-
--- where a key-down from up ends at i: it is one of the row, and the counts of those before it leave room for it
-pub record Kept (a : Found) (up i : ℕ) : Type 0 where
-  pub first : 1 ≤ up
-  pub later : up < i
-  pub place : 2 * (a .listed + 1) ≤ i
-  pub room : Room a
 
 -- ---- the lent list: four numbers an element
 

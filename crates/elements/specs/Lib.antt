@@ -2,4 +2,5 @@
 pub mod Crossings
 pub mod Times
 pub mod Found
+pub mod Counting
 pub mod Find

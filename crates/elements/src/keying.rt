@@ -9,7 +9,8 @@ ghost use lib.ListN.{length, getD};
 ghost use lib.Ieee.{nan};
 ghost use Rattle.elements.specs.Crossings.{upward, downward, keyDown, pending, ended};
 ghost use Rattle.elements.specs.Times.{crossedAt, elementOf, isLong};
-ghost use Rattle.elements.specs.Found.{Room, Kept, oneListed, oneShort, counts, foundPlus, foundTo, elementsOf, elementsTo, stored, storedFrom};
+ghost use Rattle.elements.specs.Found.{counts, foundTo, elementsOf, elementsTo, stored, storedFrom};
+ghost use Rattle.elements.specs.Counting.{Room, Kept, oneListed, oneShort, foundPlus};
 
 pub const RISE_S: f64 = 5e-3;
 
