@@ -8,4 +8,5 @@ pub mod Stored
 pub mod Ways
 pub mod Bounds
 pub mod Recording
+pub mod Unturned
 pub mod Laws

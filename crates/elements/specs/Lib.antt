@@ -4,3 +4,4 @@ pub mod Times
 pub mod Found
 pub mod Counting
 pub mod Find
+pub mod Ones
