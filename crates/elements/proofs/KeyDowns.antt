@@ -20,7 +20,7 @@ use Rattle.elements.specs.Found.{those, listedOf, shortOf, counts, found
 use Rattle.elements.proofs.Compared.{apart, total, reached-is}
 use Rattle.elements.proofs.Keyed.{Held, one-way, pending-up, pending-down, pending-same, keys-down, keys-same, held}
 
-either : (t : Bool) → (t ≡ true) ⊎ (t ≡ false)
+pub either : (t : Bool) → (t ≡ true) ⊎ (t ≡ false)
 either true = inl refl
 either false = inr refl
 

@@ -9,4 +9,5 @@ pub mod Ways
 pub mod Bounds
 pub mod Recording
 pub mod Unturned
+pub mod Edges
 pub mod Laws

@@ -1,11 +1,11 @@
 -- At carrier 0 nothing is turned: the rotor is 1 at every sample. A recording of whole numbers 0 and 1 keeps them through `derotated`, and at a step of 1 through `block_means` and the running sum. Assumes nothing.
-use Prim.Native.Nat.{ℕ, zero, suc, _+_, _-_, _*_, _/_, _^_, _≤_, _<_}
-use native.Mathlib.Nat.{zero-mul, mul-one, add-zero}
+use Prim.Native.Nat.{ℕ, zero, suc, _+_, _-_, _*_, _^_, _≤_, _<_}
+use native.Mathlib.Nat.{zero-mul}
 use native.Mathlib.Omega.{arith}
-use mathlib.Core.Path.{_≡_, refl, sym, ap, _∙_, subst}
+use mathlib.Core.Path.{_≡_, refl, sym, ap, _∙_}
 use mathlib.Core.List.{List}
 use lib.Ieee.{Float, binary64, add, sub, mul, div, rem, neg, lt, le, ofInt, ofBits, round, toSigned}
-use Rattle.float.specs.Ops.{_⊕_, _⊖_, _⊗_, _⊘_, of, zero as nought, one, eight, fraction, absOf}
+use Rattle.float.specs.Ops.{_⊕_, _⊖_, _⊗_, of, one, eight, fraction, absOf}
 use Rattle.float.specs.Whole.{roundOf}
 use Rattle.float.specs.Rem.{remEuclidOf}
 use Rattle.float.specs.Sqrt.{sqrtOf}
@@ -17,7 +17,7 @@ use Rattle.complex.specs.declared.value.Complex.{Complex}
 use Rattle.complex.specs.Cx.{cNew, cZero, cAdd, cSub, cMul, cConj, cDiv, cNorm}
 use Rattle.complex.specs.Rows.{zAt, cSum}
 use Rattle.row.specs.Blocks.{rotorOf, derot, meanFrom, blockMean}
-use Rattle.row.specs.Amplitudes.{movedBy, runOf, amplitude}
+use Rattle.row.specs.Amplitudes.{runOf, amplitude}
 
 -- a whole number as a complex one
 abbrev pub real : ℕ → Complex

@@ -1,0 +1,261 @@
+-- The rows of 01's edge table that speak of elements: fs 3,000, carrier 0, samples 0 or (1, 0). Assumes nothing.
+use Prim.Native.Nat.{ℕ, zero, suc, _+_, _-_, _*_, _/_, _≤_, _<_, min}
+use native.Mathlib.Nat.{eq-or-lt-of-le, le-of-suc-le-suc, not-suc-le-zero, div-one}
+use native.Mathlib.Omega.{arith}
+use mathlib.Core.Path.{_≡_, refl, sym, ap, _∙_, subst}
+use mathlib.Core.Logic.{_⊎_, ⊎-elim}
+use mathlib.Core.Bool.{Bool, true, false, not, cond}
+use mathlib.Core.List.{List, [], _∷_, _++_}
+use lib.Dec.{T, leb, ltb}
+use lib.ListN.{length, getD, length-append, List·getD-append, List·getD-eq-default}
+use lib.Seq.{getD-append-add}
+use lib.Ieee.{Float, nan, binary64, add, sub, mul, div, lt, le, eq, ofInt, ofBits, round, toUnsigned, isNan, fits}
+use lib.Ieee.Fits.{round-fits, nan-fits}
+use borrow.Author.Tests.{leb-true, leb-false, ltb-true, ltb-false}
+use Rattle.float.specs.Ops.{_⊘_, of, fraction, half, maxOf}
+use Rattle.float.specs.Whole.{roundOf, wholeBy}
+use Rattle.complex.specs.Cx.{cNew}
+use Rattle.complex.specs.Rows.{zAt}
+use Rattle.row.specs.Window.{EDGE_WINDOW_S, stepOf}
+use Rattle.row.specs.Amplitudes.{rowOf, rowLength, listOf}
+use Rattle.row.proofs.Rows.{length-listOf, getD-listOf}
+use Rattle.rank.specs.declared.Percentile.{Percentile}
+use Rattle.rank.specs.declared.Percentile.the-variants.{Value}
+use Rattle.rank.specs.Order.{minusZero, precedes, countTo, before, upTo}
+use Rattle.rank.specs.Percentile.{rankOf, percentileOf}
+use Rattle.rank.proofs.Counted.{count-cong}
+use Rattle.rank.proofs.Sorted.{held, rank-lt, percentile-counts}
+use Rattle.elements.specs.Crossings.{upward, downward, pending, keyDowns}
+use Rattle.elements.specs.Times.{RISE_S, crossedAt, elementOf, isLong, long}
+use Rattle.elements.specs.Found.{those, airtimeOf, listedOf, shortOf, counts, elementsOf, foundTo, elementsTo}
+use Rattle.elements.specs.Find.{EDGE_PERCENTILE, halfOf, thresholdOf, foundAt, elementsAt, foundOf, elementsFound}
+use Rattle.elements.specs.Ones.{isOne, onesOf}
+use Rattle.elements.proofs.KeyDowns.{either}
+use Rattle.elements.proofs.Same.{found-same, elements-same}
+use Rattle.elements.proofs.Unturned.{real, at-nine, row-real}
+
+both-parts : (x y x' y' : Float) → x ≡ x' → y ≡ y' → cNew x y ≡ cNew x' y'
+both-parts x y x' y' p q = rw (p, q)
+
+pair-last : (l : List Float) (x y : Float) (n : ℕ) → length l ≡ 2 * n → zAt (l ++ (x ∷ y ∷ [])) n ≡ cNew x y
+pair-last l x y n size =
+    let re : 2 * n ≡ length l + 0 = omega arith in
+    let im : 2 * n + 1 ≡ length l + 1 = omega arith in
+    both-parts (getD (l ++ (x ∷ y ∷ [])) (2 * n) nan) (getD (l ++ (x ∷ y ∷ [])) (2 * n + 1) nan) x y
+    (ap (λ (i : ℕ). getD (l ++ (x ∷ y ∷ [])) i nan) re ∙ getD-append-add l (x ∷ y ∷ []) 0 nan)
+    (ap (λ (i : ℕ). getD (l ++ (x ∷ y ∷ [])) i nan) im ∙ getD-append-add l (x ∷ y ∷ []) 1 nan)
+
+pair-before : (l r : List Float) (k : ℕ) → 2 * k + 1 < length l → zAt (l ++ r) k ≡ zAt l k
+pair-before l r k h =
+    both-parts (getD (l ++ r) (2 * k) nan) (getD (l ++ r) (2 * k + 1) nan) (getD l (2 * k) nan) (getD l (2 * k + 1) nan)
+    (List·getD-append l r nan (2 * k) (omega arith)) (List·getD-append l r nan (2 * k + 1) h)
+
+-- ---- the recording: its samples, and how many ones there are below k
+module _ (a e : ℕ) where
+  abbrev bitAt : ℕ → ℕ
+  bitAt k = cond (isOne a e k) 1 0
+
+  abbrev onesBelow : ℕ → ℕ
+  onesBelow k = min k (suc e) - a
+
+  bit-small : (k : ℕ) → bitAt k ≤ 1
+  bit-small k = small (isOne a e k)
+    where
+      small : (t : Bool) → cond t 1 0 ≤ 1
+      small true = omega arith
+      small false = omega arith
+
+  ones-next : (k : ℕ) → onesBelow (suc k) ≡ onesBelow k + bitAt k
+  unfolding isOne
+  ones-next k =
+      ⊎-elim
+      (λ p. let h = leb-true a k p in
+      ⊎-elim (λ q. let g = leb-true k e q in rw (p, q) (omega arith)) (λ q. let g = leb-false k e q in rw (p, q) (omega arith)) (either (leb k e)))
+      (λ p. let h = leb-false a k p in rw p (omega arith))
+      (either (leb a k))
+
+  length-ones : (n : ℕ) → length (onesOf a e n) ≡ 2 * n
+  unfolding onesOf
+  length-ones zero = refl
+  length-ones (suc n) = length-append (onesOf a e n) (of (bitAt n) ∷ of 0 ∷ []) ∙ (let so-far = length-ones n in omega arith)
+
+  sample-ones : (n k : ℕ) → k < n → zAt (onesOf a e n) k ≡ real (bitAt k)
+  unfolding onesOf
+  sample-ones zero k h = absurd (not-suc-le-zero h)
+  sample-ones (suc n) k h =
+      let size = length-ones n in
+      ⊎-elim (λ q. ap (zAt (onesOf a e (suc n))) q ∙ pair-last (onesOf a e n) (of (bitAt n)) (of 0) n size ∙ ap (λ (i : ℕ). real (bitAt i)) (sym q))
+      (λ l. pair-before (onesOf a e n) (of (bitAt n) ∷ of 0 ∷ []) k (omega arith) ∙ sample-ones n k l)
+      (eq-or-lt-of-le (le-of-suc-le-suc h))
+
+-- ---- at fs 3,000: step 1
+pub step-3000 : stepOf (of 3000) ≡ 1
+unfolding stepOf EDGE_WINDOW_S fraction maxOf roundOf wholeBy round mul div lt isNan ofInt ofBits toUnsigned
+step-3000 = refl
+
+cycles-3000 : of 0 ⊘ of 3000 ≡ of 0
+unfolding div ofInt
+cycles-3000 = refl
+
+-- ---- its row: the ones in each eight, over 8
+module _ (a e : ℕ) where
+  abbrev inEight : ℕ → ℕ
+  inEight i = onesBelow a e (8 + i) - onesBelow a e i
+
+  abbrev eighths : ℕ → Float
+  eighths i = fraction (inEight i) 8
+
+  few-ones : (i : ℕ) → inEight i ≤ 8
+  few-ones i = omega arith
+
+module _ (a e n : ℕ) (few : n ≤ 1048576) where
+  blocks-ones : length (onesOf a e n) / 2 / stepOf (of 3000) ≡ n
+  blocks-ones = rw (step-3000, length-ones a e n, div-one) (omega arith)
+
+  row-ones : (i : ℕ) → 8 + i ≤ n → rowOf (onesOf a e n) (of 3000) (of 0) i ≡ eighths a e i
+  unfolding rowOf
+  row-ones i h =
+      rw (step-3000, cycles-3000) (row-real (onesOf a e n) n (bitAt a e) (onesBelow a e) few (bit-small a e) (omega arith) (ones-next a e) (sample-ones a e n) i h)
+
+list-same : (f g : ℕ → Float) (n : ℕ) → ((i : ℕ) → i < n → f i ≡ g i) → listOf f n ≡ listOf g n
+unfolding listOf
+list-same f g zero h = refl
+list-same f g (suc n) h = rw (list-same f g n (λ i b. h i (omega arith)), h n (omega arith))
+
+-- ---- its threshold: half of 1, where so many eights are full that the 98th percentile is one of them
+abbrev top : Float
+top = fraction 8 8
+
+below-top : (m : ℕ) → m ≤ 8 → precedes (fraction m 8) top ≡ ltb m 8
+unfolding precedes minusZero lt eq isNan fraction round
+below-top = at-nine (λ m. precedes (fraction m 8) top ≡ ltb m 8) refl refl refl refl refl refl refl refl refl
+
+upto-top : (m : ℕ) → m ≤ 8 → not (precedes top (fraction m 8)) ≡ true
+unfolding precedes minusZero lt eq isNan fraction round
+upto-top = at-nine (λ m. not (precedes top (fraction m 8)) ≡ true) refl refl refl refl refl refl refl refl refl
+
+half-top : halfOf (Value top) ≡ Value half
+unfolding fraction round lt mul ofBits
+half-top = refl
+
+count-all : (n : ℕ) → countTo (λ i. true) n ≡ n
+unfolding countTo
+count-all zero = refl
+count-all (suc n) = rw (count-all n) (omega arith)
+
+eighth-fits : (m : ℕ) → T (fits binary64 (fraction m 8))
+unfolding fraction
+eighth-fits m = round-fits binary64 false m 8
+
+row-fits : (m : ℕ → ℕ) (n i : ℕ) → T (fits binary64 (getD (listOf (λ k. fraction (m k) 8) n) i nan))
+row-fits m n i =
+    ⊎-elim (λ h. subst (λ (x : Float). T (fits binary64 x)) (sym (getD-listOf (λ k. fraction (m k) 8) n i nan (ltb-true i n h))) (eighth-fits (m i)))
+    (λ h. subst (λ (x : Float). T (fits binary64 x)) (sym (List·getD-eq-default (listOf (λ k. fraction (m k) 8) n) nan (rw (length-listOf (λ k. fraction (m k) 8) n) (ltb-false i n h)))) (nan-fits binary64))
+    (either (ltb i n))
+
+module _ (m : ℕ → ℕ) (small : (i : ℕ) → m i ≤ 8) (n : ℕ) where
+  eights : List Float
+  eights = listOf (λ k. fraction (m k) 8) n
+
+  before-top : before eights top ≡ countTo (λ i. ltb (m i) 8) n
+  unfolding before eights
+  before-top =
+      rw (length-listOf (λ k. fraction (m k) 8) n)
+      (count-cong (λ i. precedes (getD eights i nan) top) (λ i. ltb (m i) 8) n
+      (λ i h. ap (λ (x : Float). precedes x top) (getD-listOf (λ k. fraction (m k) 8) n i nan h) ∙ below-top (m i) (small i)))
+
+  all-upto : upTo eights top ≡ n
+  unfolding upTo eights
+  all-upto =
+      rw (length-listOf (λ k. fraction (m k) 8) n)
+      (count-cong (λ i. not (precedes top (getD eights i nan))) (λ i. true) n
+      (λ i h. ap (λ (x : Float). not (precedes top x)) (getD-listOf (λ k. fraction (m k) 8) n i nan h) ∙ upto-top (m i) (small i))
+      ∙ count-all n)
+
+  percentile-top : 0 < n → countTo (λ i. ltb (m i) 8) n ≤ rankOf n EDGE_PERCENTILE → percentileOf eights EDGE_PERCENTILE ≡ Value top
+  unfolding eights
+  percentile-top some enough =
+      let size = length-listOf (λ k. fraction (m k) 8) n in
+      percentile-counts eights EDGE_PERCENTILE top (held eights (row-fits m n)) (eighth-fits 8) (rw size some) (rw (size, before-top) enough)
+      (rw (size, all-upto) (rank-lt n EDGE_PERCENTILE some))
+
+module _ (row : ℕ → Float) (fs : Float) {last last' step step' : ℕ} {p p' : Percentile} (l : last ≡ last') (s : step ≡ step') (t : p ≡ p') where
+  found-by : foundAt row last step fs p ≡ foundAt row last' step' fs p'
+  found-by = rw (l, s, t)
+
+  elements-by : elementsAt row last step fs p ≡ elementsAt row last' step' fs p'
+  elements-by = rw (l, s, t)
+
+-- ---- what is found in it is what the row of eighths has
+module _ (a e n : ℕ) (few : n ≤ 1048576) (some : 8 ≤ n) (enough : countTo (λ i. ltb (inEight a e i) 8) (n - 7) ≤ rankOf (n - 7) EDGE_PERCENTILE) where
+  abbrev iq : List Float
+  iq = onesOf a e n
+
+  threshold-ones : thresholdOf iq (of 3000) (of 0) ≡ Value half
+  unfolding thresholdOf eights
+  threshold-ones =
+      ap (λ (l : List Float). halfOf (percentileOf l EDGE_PERCENTILE))
+      (ap (λ (b : ℕ). listOf (rowOf iq (of 3000) (of 0)) (b - 7)) (blocks-ones a e n few)
+      ∙ list-same (rowOf iq (of 3000) (of 0)) (eighths a e) (n - 7) (λ i h. row-ones a e n few i (omega arith)))
+      ∙ ap halfOf (percentile-top (inEight a e) (few-ones a e) (n - 7) (omega arith) enough) ∙ half-top
+
+  last-ones : rowLength iq (of 3000) - 1 ≡ n - 7 - 1
+  last-ones = ap (λ (b : ℕ). b - 7 - 1) (blocks-ones a e n few)
+
+  row-so : (i : ℕ) → i ≤ n - 7 - 1 → rowOf iq (of 3000) (of 0) i ≡ eighths a e i
+  row-so i h = row-ones a e n few i (omega arith)
+
+  pub found-ones : foundOf iq (of 3000) (of 0) ≡ foundTo (eighths a e) half 1 (of 3000) (n - 7 - 1)
+  unfolding foundOf
+  found-ones =
+      found-by (rowOf iq (of 3000) (of 0)) (of 3000) last-ones step-3000 threshold-ones
+      ∙ found-same (rowOf iq (of 3000) (of 0)) (eighths a e) half (n - 7 - 1) row-so 1 (of 3000)
+
+  pub elements-ones : elementsFound iq (of 3000) (of 0) ≡ elementsTo (eighths a e) half 1 (of 3000) (n - 7 - 1)
+  unfolding elementsFound
+  elements-ones =
+      elements-by (rowOf iq (of 3000) (of 0)) (of 3000) last-ones step-3000 threshold-ones
+      ∙ elements-same (rowOf iq (of 3000) (of 0)) (eighths a e) half (n - 7 - 1) row-so 1 (of 3000)
+
+-- ---- the table's rows: what the definitions compute
+
+full-100-199 : countTo (λ i. ltb (inEight 100 199 i) 8) (300 - 7) ≤ rankOf (300 - 7) EDGE_PERCENTILE
+unfolding countTo rankOf EDGE_PERCENTILE fraction round mul roundOf wholeBy ofInt toUnsigned
+full-100-199 = omega arith
+
+row-100-199 : (foundTo (eighths 100 199) half 1 (of 3000) 292 ≡ record { «key_downs» = 1; listed = 1; short = 0; airtime = 101 })
+    × (elementsTo (eighths 100 199) half 1 (of 3000) 292 ≡ record { start = fraction 995 10; end = fraction 1995 10; up = of 96; down = of 197 } ∷ [])
+unfolding foundTo counts elementsTo elementsOf listedOf shortOf those airtimeOf keyDowns pending upward downward long isLong elementOf crossedAt RISE_S fraction round lt le eq add sub mul div ofInt ofBits
+row-100-199 = (refl, refl)
+
+full-40-54 : countTo (λ i. ltb (inEight 40 54 i) 8) (107 - 7) ≤ rankOf (107 - 7) EDGE_PERCENTILE
+unfolding countTo rankOf EDGE_PERCENTILE fraction round mul roundOf wholeBy ofInt toUnsigned
+full-40-54 = omega arith
+
+row-40-54 : (foundTo (eighths 40 54) half 1 (of 3000) 99 ≡ record { «key_downs» = 1; listed = 1; short = 0; airtime = 16 })
+    × (elementsTo (eighths 40 54) half 1 (of 3000) 99 ≡ record { start = fraction 395 10; end = fraction 545 10; up = of 36; down = of 52 } ∷ [])
+unfolding foundTo counts elementsTo elementsOf listedOf shortOf those airtimeOf keyDowns pending upward downward long isLong elementOf crossedAt RISE_S fraction round lt le eq add sub mul div ofInt ofBits
+row-40-54 = (refl, refl)
+
+full-40-53 : countTo (λ i. ltb (inEight 40 53 i) 8) (107 - 7) ≤ rankOf (107 - 7) EDGE_PERCENTILE
+unfolding countTo rankOf EDGE_PERCENTILE fraction round mul roundOf wholeBy ofInt toUnsigned
+full-40-53 = omega arith
+
+row-40-53 : (foundTo (eighths 40 53) half 1 (of 3000) 99 ≡ record { «key_downs» = 1; listed = 0; short = 1; airtime = 0 })
+    × (elementsTo (eighths 40 53) half 1 (of 3000) 99 ≡ [])
+unfolding foundTo counts elementsTo elementsOf listedOf shortOf those airtimeOf keyDowns pending upward downward long isLong elementOf crossedAt RISE_S fraction round lt le eq add sub mul div ofInt ofBits
+row-40-53 = (refl, refl)
+
+-- Ones at 100..199 of 300: times 99.5 and 199.5
+pub ones-100-199 : (foundOf (onesOf 100 199 300) (of 3000) (of 0) ≡ record { «key_downs» = 1; listed = 1; short = 0; airtime = 101 })
+    × (elementsFound (onesOf 100 199 300) (of 3000) (of 0) ≡ record { start = fraction 995 10; end = fraction 1995 10; up = of 96; down = of 197 } ∷ [])
+ones-100-199 = (found-ones 100 199 300 (omega arith) (omega arith) full-100-199 ∙ row-100-199 .0, elements-ones 100 199 300 (omega arith) (omega arith) full-100-199 ∙ row-100-199 .1)
+
+-- Ones at 40..54 of 107: listed. At 40..53: short.
+pub ones-40-54 : (foundOf (onesOf 40 54 107) (of 3000) (of 0) ≡ record { «key_downs» = 1; listed = 1; short = 0; airtime = 16 })
+    × (elementsFound (onesOf 40 54 107) (of 3000) (of 0) ≡ record { start = fraction 395 10; end = fraction 545 10; up = of 36; down = of 52 } ∷ [])
+ones-40-54 = (found-ones 40 54 107 (omega arith) (omega arith) full-40-54 ∙ row-40-54 .0, elements-ones 40 54 107 (omega arith) (omega arith) full-40-54 ∙ row-40-54 .1)
+
+pub ones-40-53 : (foundOf (onesOf 40 53 107) (of 3000) (of 0) ≡ record { «key_downs» = 1; listed = 0; short = 1; airtime = 0 })
+    × (elementsFound (onesOf 40 53 107) (of 3000) (of 0) ≡ [])
+ones-40-53 = (found-ones 40 53 107 (omega arith) (omega arith) full-40-53 ∙ row-40-53 .0, elements-ones 40 53 107 (omega arith) (omega arith) full-40-53 ∙ row-40-53 .1)
