@@ -25,6 +25,8 @@ use Rattle.rank.specs.Order.{minusZero, precedes, countTo, before, upTo}
 use Rattle.rank.specs.Percentile.{rankOf, percentileOf}
 use Rattle.rank.proofs.Counted.{count-cong}
 use Rattle.rank.proofs.Sorted.{held, rank-lt, percentile-counts}
+use Rattle.elements.specs.declared.element.KeyedElement.{KeyedElement}
+use Rattle.elements.specs.declared.keying.Found.{Found}
 use Rattle.elements.specs.Crossings.{upward, downward, pending, keyDowns}
 use Rattle.elements.specs.Times.{RISE_S, crossedAt, elementOf, isLong, long}
 use Rattle.elements.specs.Found.{those, airtimeOf, listedOf, shortOf, counts, elementsOf, foundTo, elementsTo}
@@ -99,10 +101,10 @@ cycles-3000 = refl
 
 -- ---- its row: the ones in each eight, over 8
 module _ (a e : ℕ) where
-  abbrev inEight : ℕ → ℕ
+  abbrev pub inEight : ℕ → ℕ
   inEight i = onesBelow a e (8 + i) - onesBelow a e i
 
-  abbrev eighths : ℕ → Float
+  abbrev pub eighths : ℕ → Float
   eighths i = fraction (inEight i) 8
 
   few-ones : (i : ℕ) → inEight i ≤ 8
@@ -217,45 +219,30 @@ module _ (a e n : ℕ) (few : n ≤ 1048576) (some : 8 ≤ n) (enough : countTo 
       elements-by (rowOf iq (of 3000) (of 0)) (of 3000) last-ones step-3000 threshold-ones
       ∙ elements-same (rowOf iq (of 3000) (of 0)) (eighths a e) half (n - 7 - 1) row-so 1 (of 3000)
 
--- ---- the table's rows: what the definitions compute
+-- ---- the table's rows
 
-full-100-199 : countTo (λ i. ltb (inEight 100 199 i) 8) (300 - 7) ≤ rankOf (300 - 7) EDGE_PERCENTILE
-unfolding countTo rankOf EDGE_PERCENTILE fraction round mul roundOf wholeBy ofInt toUnsigned
-full-100-199 = omega arith
+-- the counts and the elements of a recording, and of the row of eighths
+abbrev pub Finds : (a e n : ℕ) → Found → List KeyedElement → Type 0
+Finds a e n found elements = (foundOf (onesOf a e n) (of 3000) (of 0) ≡ found) × (elementsFound (onesOf a e n) (of 3000) (of 0) ≡ elements)
 
-row-100-199 : (foundTo (eighths 100 199) half 1 (of 3000) 292 ≡ record { «key_downs» = 1; listed = 1; short = 0; airtime = 101 })
-    × (elementsTo (eighths 100 199) half 1 (of 3000) 292 ≡ record { start = fraction 995 10; end = fraction 1995 10; up = of 96; down = of 197 } ∷ [])
-unfolding foundTo counts elementsTo elementsOf listedOf shortOf those airtimeOf keyDowns pending upward downward long isLong elementOf crossedAt RISE_S fraction round lt le eq add sub mul div ofInt ofBits
-row-100-199 = (refl, refl)
+abbrev pub RowFinds : (a e n : ℕ) → Found → List KeyedElement → Type 0
+RowFinds a e n found elements =
+    (foundTo (eighths a e) half 1 (of 3000) (n - 7 - 1) ≡ found) × (elementsTo (eighths a e) half 1 (of 3000) (n - 7 - 1) ≡ elements)
 
-full-40-54 : countTo (λ i. ltb (inEight 40 54 i) 8) (107 - 7) ≤ rankOf (107 - 7) EDGE_PERCENTILE
-unfolding countTo rankOf EDGE_PERCENTILE fraction round mul roundOf wholeBy ofInt toUnsigned
-full-40-54 = omega arith
+pub finds : (a e n : ℕ) (found : Found) (elements : List KeyedElement) → n ≤ 1048576 → 8 ≤ n
+    → countTo (λ i. ltb (inEight a e i) 8) (n - 7) ≤ rankOf (n - 7) EDGE_PERCENTILE → RowFinds a e n found elements → Finds a e n found elements
+finds a e n found elements few some enough row = (found-ones a e n few some enough ∙ row .0, elements-ones a e n few some enough ∙ row .1)
 
-row-40-54 : (foundTo (eighths 40 54) half 1 (of 3000) 99 ≡ record { «key_downs» = 1; listed = 1; short = 0; airtime = 16 })
-    × (elementsTo (eighths 40 54) half 1 (of 3000) 99 ≡ record { start = fraction 395 10; end = fraction 545 10; up = of 36; down = of 52 } ∷ [])
-unfolding foundTo counts elementsTo elementsOf listedOf shortOf those airtimeOf keyDowns pending upward downward long isLong elementOf crossedAt RISE_S fraction round lt le eq add sub mul div ofInt ofBits
-row-40-54 = (refl, refl)
+abbrev counted : ℕ → ℕ → ℕ → ℕ → Found
+counted keys listed short air = record { «key_downs» = keys; listed = listed; short = short; airtime = air }
 
-full-40-53 : countTo (λ i. ltb (inEight 40 53 i) 8) (107 - 7) ≤ rankOf (107 - 7) EDGE_PERCENTILE
-unfolding countTo rankOf EDGE_PERCENTILE fraction round mul roundOf wholeBy ofInt toUnsigned
-full-40-53 = omega arith
-
-row-40-53 : (foundTo (eighths 40 53) half 1 (of 3000) 99 ≡ record { «key_downs» = 1; listed = 0; short = 1; airtime = 0 })
-    × (elementsTo (eighths 40 53) half 1 (of 3000) 99 ≡ [])
-unfolding foundTo counts elementsTo elementsOf listedOf shortOf those airtimeOf keyDowns pending upward downward long isLong elementOf crossedAt RISE_S fraction round lt le eq add sub mul div ofInt ofBits
-row-40-53 = (refl, refl)
-
--- Ones at 100..199 of 300: times 99.5 and 199.5
-pub ones-100-199 : (foundOf (onesOf 100 199 300) (of 3000) (of 0) ≡ record { «key_downs» = 1; listed = 1; short = 0; airtime = 101 })
-    × (elementsFound (onesOf 100 199 300) (of 3000) (of 0) ≡ record { start = fraction 995 10; end = fraction 1995 10; up = of 96; down = of 197 } ∷ [])
-ones-100-199 = (found-ones 100 199 300 (omega arith) (omega arith) full-100-199 ∙ row-100-199 .0, elements-ones 100 199 300 (omega arith) (omega arith) full-100-199 ∙ row-100-199 .1)
-
--- Ones at 40..54 of 107: listed. At 40..53: short.
-pub ones-40-54 : (foundOf (onesOf 40 54 107) (of 3000) (of 0) ≡ record { «key_downs» = 1; listed = 1; short = 0; airtime = 16 })
-    × (elementsFound (onesOf 40 54 107) (of 3000) (of 0) ≡ record { start = fraction 395 10; end = fraction 545 10; up = of 36; down = of 52 } ∷ [])
-ones-40-54 = (found-ones 40 54 107 (omega arith) (omega arith) full-40-54 ∙ row-40-54 .0, elements-ones 40 54 107 (omega arith) (omega arith) full-40-54 ∙ row-40-54 .1)
-
-pub ones-40-53 : (foundOf (onesOf 40 53 107) (of 3000) (of 0) ≡ record { «key_downs» = 1; listed = 0; short = 1; airtime = 0 })
-    × (elementsFound (onesOf 40 53 107) (of 3000) (of 0) ≡ [])
-ones-40-53 = (found-ones 40 53 107 (omega arith) (omega arith) full-40-53 ∙ row-40-53 .0, elements-ones 40 53 107 (omega arith) (omega arith) full-40-53 ∙ row-40-53 .1)
+-- Ones at 100..199 of 300: times 99.5 and 199.5. Ones at 40..54 of 107: listed. At 40..53: short.
+pub edges : Finds 100 199 300 (counted 1 1 0 101) (record { start = fraction 995 10; end = fraction 1995 10; up = of 96; down = of 197 } ∷ [])
+    × Finds 40 54 107 (counted 1 1 0 16) (record { start = fraction 395 10; end = fraction 545 10; up = of 36; down = of 52 } ∷ [])
+    × Finds 40 53 107 (counted 1 0 1 0) []
+unfolding foundTo counts elementsTo elementsOf listedOf shortOf those airtimeOf keyDowns pending upward downward long isLong elementOf crossedAt RISE_S countTo rankOf EDGE_PERCENTILE roundOf wholeBy fraction round lt le eq add sub mul div ofInt ofBits toUnsigned
+edges = (
+  finds 100 199 300 _ _ (omega arith) (omega arith) (omega arith) (refl, refl),
+  finds 40 54 107 _ _ (omega arith) (omega arith) (omega arith) (refl, refl),
+  finds 40 53 107 _ _ (omega arith) (omega arith) (omega arith) (refl, refl),
+)
