@@ -1,0 +1,3 @@
+-- What the contracts of `fits` cite.
+pub mod Sums
+pub mod Line

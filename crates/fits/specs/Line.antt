@@ -1,0 +1,39 @@
+-- The weighted least squares of `fit_elements` (01, part 4): points with a time, a phase and a weight, and the slope of the line through them. Definitions only.
+use Prim.Native.Nat.{ℕ, _+_, _*_}
+use mathlib.Core.Bool.{cond}
+use mathlib.Core.List.{List}
+use lib.Dec.{leb}
+use lib.Ieee.{Float, lt}
+use Rattle.float.specs.Ops.{_⊕_, _⊖_, _⊗_, _⊘_, of, zero, one, two}
+use Rattle.complex.specs.Rows.{zAt}
+use Rattle.fits.specs.Sums.{total}
+
+-- the time of block b of an interior that begins at i0: the middle of its samples
+abbrev pub timeOf : ℕ → ℕ → ℕ → Float
+timeOf i0 block b = of (i0 + b * block) ⊕ (of block ⊖ one) ⊘ two
+
+-- point b as a list holds it, a pair where a row of complex numbers has its number b
+abbrev pub phaseIn : List Float → ℕ → Float
+phaseIn l b = zAt l b .re
+
+abbrev pub weightIn : List Float → ℕ → Float
+weightIn l b = zAt l b .im
+
+-- Σ w x, over n points
+abbrev pub weighted : (ℕ → Float) → (ℕ → Float) → ℕ → Float
+weighted w x = total (λ b. w b ⊗ x b)
+
+-- Σ w (x − xm) (y − ym), over n points
+abbrev pub moment : (ℕ → Float) → (ℕ → Float) → Float → (ℕ → Float) → Float → ℕ → Float
+moment w x xm y ym = total (λ b. w b ⊗ (x b ⊖ xm) ⊗ (y b ⊖ ym))
+
+-- The slope of phase p over time t with weights w: num / den about the weighted means tm and pm.
+-- It is 0 with fewer than two points, with no weight, and with no spread of time.
+unfoldable pub lineSlope : (ℕ → Float) → (ℕ → Float) → (ℕ → Float) → ℕ → Float
+lineSlope w t p n =
+    let wsum = total w n in
+    let tm = weighted w t n ⊘ wsum in
+    let pm = weighted w p n ⊘ wsum in
+    let num = moment w t tm p pm n in
+    let den = moment w t tm t tm n in
+    cond (leb 2 n) (cond (lt zero wsum) (cond (lt zero den) (num ⊘ den) zero) zero) zero

@@ -1,0 +1,2 @@
+// The fits of a strong sender's elements.
+pub mod line;
