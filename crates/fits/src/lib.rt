@@ -1,2 +1,3 @@
 // The fits of a strong sender's elements.
+pub mod interior;
 pub mod line;
