@@ -94,8 +94,8 @@ rate-windowed fs r =
     record {
       rate = p;
       wide =
-        between (of 2000 ⊗ w) (fs ⊗ w) (of 192000 ⊗ w) (lo .wide) (hi .wide) (window-mono (of 2000) fs (lo .rate) p (r .low))
-        (window-mono fs (of 192000) p (hi .rate) (r .high));
+          between (of 2000 ⊗ w) (fs ⊗ w) (of 192000 ⊗ w) (lo .wide) (hi .wide) (window-mono (of 2000) fs (lo .rate) p (r .low))
+          (window-mono fs (of 192000) p (hi .rate) (r .high));
     }
 
 -- ---- from each rate of a list to the next, and from the last to 192,000

@@ -1,12 +1,13 @@
 -- The interior of an element in whole samples, and the block of the slope fit (01, part 4: `fit_elements`). Definitions only.
 use Prim.Native.Nat.{ℕ}
-use mathlib.Core.Bool.{Bool, _||_, cond}
-use lib.Ieee.{Float, lt, toUnsigned}
-use Rattle.float.specs.Ops.{_⊕_, _⊖_, _⊗_, of, zero, one, maxOf}
+use mathlib.Core.Bool.{Bool, false, _||_, cond}
+use lib.IntN.{pos}
+use lib.Ieee.{Float, fin, lt, le, toUnsigned}
+use Rattle.float.specs.Ops.{_⊕_, _⊖_, _⊗_, of, zero, one, absOf, maxOf}
 use Rattle.float.specs.Whole.{floorOf, ceilOf, roundOf}
 use Rattle.fits.specs.Constants.{RISE_S, MIN_INTERIOR_S, SLOPE_BLOCK_S}
 use Rattle.fits.specs.declared.interior.Interior.{Interior}
-use Rattle.fits.specs.declared.interior.Interior.the-variants.{Within, Nothing}
+use Rattle.fits.specs.declared.interior.Interior.the-variants.{Inside, Nothing}
 
 -- `lo` and `hi`: the whole samples in start + RISE_S × fs .. end − RISE_S × fs
 unfoldable pub loOf : Float → Float → Float
@@ -26,9 +27,13 @@ unfit n fs start end =
     let hi = hiOf fs end in
     lt lo zero || (lt (of n) hi || lt (hi ⊖ lo) (of (minLen fs)))
 
+-- finite, and of size at most 2^200 (question 7), as an element's start and end are
+unfoldable pub sized : Float → Bool
+sized x = le (absOf x) (fin false 1 (pos 200))
+
 -- the samples from i0 on, up to but without i1; nothing where the element is skipped
 unfoldable pub interiorOf : ℕ → Float → Float → Float → Interior
-interiorOf n fs start end = cond (unfit n fs start end) Nothing (Within (toUnsigned 64 (loOf fs start)) (toUnsigned 64 (hiOf fs end)))
+interiorOf n fs start end = cond (unfit n fs start end) Nothing (Inside (toUnsigned 64 (loOf fs start)) (toUnsigned 64 (hiOf fs end)))
 
 -- `block`: the samples of a block of the slope fit
 unfoldable pub blockOf : Float → ℕ

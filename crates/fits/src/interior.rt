@@ -5,12 +5,14 @@ ghost use Rattle.float.specs.Ops.{of};
 ghost use Rattle.fits.specs.Interior.{interiorOf, blockOf, minLen};
 
 const RISE_S: f64 = 5e-3;
+
 const MIN_INTERIOR_S: f64 = 10e-3;
+
 const SLOPE_BLOCK_S: f64 = 0.5e-3;
 
 // From the first sample up to, not including, `past`; or nothing, where the element is too short or leaves the recording.
 pub enum Interior {
-    Within { first: usize, past: usize },
+    Inside { first: usize, past: usize },
     Nothing,
 }
 
@@ -45,7 +47,7 @@ pub fn interior_of(n: usize, fs: f64, start: f64, end: f64) -> Interior
     if hi - lo < min_len(fs) {
         return Interior::Nothing;
     }
-    Interior::Within {
+    Interior::Inside {
         first: float::to_whole(lo),
         past: float::to_whole(hi),
     }
