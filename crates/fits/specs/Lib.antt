@@ -3,3 +3,4 @@ pub mod Constants
 pub mod Interior
 pub mod Sums
 pub mod Line
+pub mod Slope
