@@ -72,3 +72,28 @@ fn unwrap_phase(
     }
     complex::put(work, last, point(phase, mean));
 }
+
+// Rust: `slope` in `fit_elements`. Fewer than two points need no work: their slope is 0.
+pub fn phase_slope(
+    iq: &[f32],
+    cyc: f64,
+    i0: usize,
+    len: usize,
+    block: usize,
+    work: &mut [f64],
+    sine: &[u64; 1025],
+) -> f64
+    requires { ⌜ Iq (now iq) ⌝ }
+    requires { ⌜ now sine ≡ sineTable ⌝ }
+    requires { ⌜ 2 * (i0 + len) ≤ length (now iq) ⌝ }
+    requires { ⌜ 1 ≤ block ⌝ }
+    requires { ⌜ 2 * (len / block) ≤ length (now work) ⌝ }
+    ensures { λ r. ⌜ r ≡ slopeOf (now (iq .entry)) cyc i0 len block ⌝ }
+{
+    let n = len / block;
+    if n < 2 {
+        return 0.0;
+    }
+    unwrap_phase(iq, cyc, i0, block, n, work, sine);
+    line_slope(work, i0, block, n)
+}
