@@ -11,11 +11,12 @@ use mathlib.Core.Bool.{true, false}
 use Rattle.float.specs.Ops.{_⊘_, zero}
 use native.Mathlib.Numerals.{add-one}
 use Rattle.complex.specs.declared.value.Complex.{Complex}
-use Rattle.complex.specs.Cx.{cNew, cNorm, cArg}
-use Rattle.complex.specs.Rows.{zSet, zFill, zFill-none, zFill-turn0, zFill-done}
+use Rattle.complex.specs.Cx.{cNew, cAdd, cNorm, cArg}
+use Rattle.complex.specs.Rows.{cSum, cSum-none0, cSum-turn0, cSum-done0, zSet, zFill, zFill-none, zFill-turn0, zFill-done}
 use Rattle.fits.specs.Sums.{fSum, total, fSum-none, fSum-turn, fSum-done}
 use Rattle.fits.specs.Line.{weighted, moment, lineSlope}
 use Rattle.fits.specs.Slope.{phaseOn, phaseOf, pointOf}
+use Rattle.fits.specs.Gain.{hann, leveledBy, leveled}
 
 -- the blocks before the last begin no later than it ends
 pub block-within : (i0 block n b m : ℕ) → i0 + n * block ≤ m → b < n → i0 + b * block ≤ m
@@ -51,6 +52,14 @@ phase-turn z b phase r before next p e f q = rw (q, p, e, f, add-one)
 pub point-is : (z : ℕ → Complex) (b : ℕ) (phase : Float) (mean r : Complex) → phase ≡ phaseOf z b → mean ≡ z b → r ≡ cNew phase (cNorm mean) → r ≡ pointOf z b
 point-is z b phase mean r p e q = rw (q, p, e)
 
+-- ---- the sum of the terms, from term 0 on
+pub cSum-turn00 : (f : ℕ → Complex) (n : ℕ) (acc x r : Complex) → acc ≡ cSum f 0 n → x ≡ f n → r ≡ cAdd acc x → r ≡ cSum f 0 (n + 1)
+cSum-turn00 f n acc x r p q e = let here : 0 + n ≡ n = omega arith in cSum-turn0 f 0 n acc x r p (rw here q) e
+
+pub leveled-is : (iq : List Float) (cyc : Float) (i0 len : ℕ) (slope ref : Float) (j : ℕ) (w : Float) (r : Complex)
+    → w ≡ hann len j → r ≡ leveledBy iq cyc slope ref (i0 + j) w → r ≡ leveled iq cyc i0 len slope ref j
+leveled-is iq cyc i0 len slope ref j w r e p = rw (p, e)
+
 -- ---- the three ways out of a line's slope, of two points or more
 module _ (w t p : ℕ → Float) (n : ℕ) (ws wt wp : Float) (more : 2 ≤ n) (e : ws ≡ total w n) where
   pub slope-weightless : lt zero ws ≡ false → zero ≡ lineSlope w t p n
@@ -66,4 +75,4 @@ module _ (w t p : ℕ → Float) (n : ℕ) (ws wt wp : Float) (more : 2 ≤ n) (
     unfolding lineSlope
     slope-steep k = rw (le-leb 2 n more, ← e, ← f, ← g, ← i, ← j, h, k)
 
-pub ruleset laws = (needs, fSum-none, fSum-turn, fSum-done, total-none, block-within, block-inside, zFill-none, zFill-turn0, zFill-done, phase-first, phase-turn, point-is)
+pub ruleset laws = (needs, fSum-none, fSum-turn, fSum-done, total-none, block-within, block-inside, zFill-none, zFill-turn0, zFill-done, phase-first, phase-turn, point-is, cSum-none0, cSum-turn00, cSum-done0, leveled-is)

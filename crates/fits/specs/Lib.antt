@@ -4,3 +4,4 @@ pub mod Interior
 pub mod Sums
 pub mod Line
 pub mod Slope
+pub mod Gain
