@@ -8,14 +8,15 @@ use lib.IntN.{pos}
 use lib.Dec.{T, lit≤, lit<}
 use lib.Ieee.{Float, nan, inf, fin, binary64, round, mul, lt, le, eq, ofInt, toUnsigned}
 use lib.Ieee.Positive.{positive, mul-mono}
-use Rattle.float.specs.Ops.{_⊕_, _⊖_, _⊗_, of, bits, zero, absOf}
+use Rattle.float.specs.Ops.{_⊕_, _⊖_, _⊗_, of, bits, zero, absOf, fraction}
 use Rattle.float.specs.Whole.{wholeBy, floorOf, ceilOf}
 use Rattle.float.proofs.Ordered.{unsigned-mono}
 use Rattle.float.proofs.Monotone.{le-through, ceil-mono}
 use Rattle.float.proofs.Within.{Within, within-finite, within-more, le-within, add-within, sub-within, mul-within}
 use Rattle.float.proofs.Intervals.{interval-is}
 use Rattle.row.specs.Window.{Rate}
-use Rattle.fits.specs.Constants.{RISE_S, MIN_INTERIOR_S, rise-bits}
+use Rattle.elements.specs.Times.{RISE_S}
+use Rattle.fits.specs.Constants.{MIN_INTERIOR_S, rise-bits}
 use Rattle.fits.specs.declared.interior.Interior.{Interior}
 use Rattle.fits.specs.declared.interior.Interior.the-variants.{Inside, Nothing}
 use Rattle.fits.specs.Interior.{loOf, hiOf, minLen, unfit, sized, interiorOf}
@@ -68,7 +69,7 @@ positive-abs (fin true m e) p = absurd p
 positive-abs (fin false m e) p = refl
 
 rise-small : Within 0 RISE_S
-unfolding RISE_S round
+unfolding RISE_S fraction round
 rise-small = lit≤ tt
 
 rate-small : T (le (of 192000) (fin false 1 (pos 18)))

@@ -1,12 +1,8 @@
--- The constants of cancel.rs that the fits go by: the f64 nearest to what the Rust writes, and the bit pattern of each, computed.
+-- The constants of cancel.rs that the fits go by: the f64 nearest to what the Rust writes, and the bit pattern of each, computed. RISE_S stands with the elements.
 use mathlib.Core.Path.{_≡_, refl}
 use lib.Ieee.{Float, round, ofBits}
 use Rattle.float.specs.Ops.{fraction, bits}
-
--- RISE_S: 5e-3
-unfoldable pub RISE_S : Float
-unfolding fraction
-RISE_S = fraction 5 1000
+use Rattle.elements.specs.Times.{RISE_S}
 
 -- MIN_INTERIOR_S: 10e-3
 unfoldable pub MIN_INTERIOR_S : Float
@@ -19,7 +15,7 @@ unfolding fraction
 SLOPE_BLOCK_S = fraction 5 10000
 
 pub rise-bits : RISE_S ≡ bits 0x3f74_7ae1_47ae_147b
-unfolding RISE_S round ofBits
+unfolding RISE_S fraction round ofBits
 rise-bits = refl
 
 pub min-interior-bits : MIN_INTERIOR_S ≡ bits 0x3f84_7ae1_47ae_147b

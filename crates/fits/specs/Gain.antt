@@ -8,7 +8,7 @@ use Rattle.trig.specs.Trig.{cosOf}
 use Rattle.complex.specs.declared.value.Complex.{Complex}
 use Rattle.complex.specs.Cx.{cMul, cPolar}
 use Rattle.complex.specs.Rows.{cSum}
-use Rattle.row.specs.Tau.{TAU}
+use Rattle.trig.specs.Constants.{TAU}
 use Rattle.row.specs.Blocks.{derot}
 use Rattle.fits.specs.Sums.{fSum}
 

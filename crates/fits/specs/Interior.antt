@@ -5,7 +5,8 @@ use lib.IntN.{pos}
 use lib.Ieee.{Float, fin, lt, le, toUnsigned}
 use Rattle.float.specs.Ops.{_⊕_, _⊖_, _⊗_, of, zero, one, absOf, maxOf}
 use Rattle.float.specs.Whole.{floorOf, ceilOf, roundOf}
-use Rattle.fits.specs.Constants.{RISE_S, MIN_INTERIOR_S, SLOPE_BLOCK_S}
+use Rattle.elements.specs.Times.{RISE_S}
+use Rattle.fits.specs.Constants.{MIN_INTERIOR_S, SLOPE_BLOCK_S}
 use Rattle.fits.specs.declared.interior.Interior.{Interior}
 use Rattle.fits.specs.declared.interior.Interior.the-variants.{Inside, Nothing}
 

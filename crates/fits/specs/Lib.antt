@@ -5,3 +5,4 @@ pub mod Sums
 pub mod Line
 pub mod Slope
 pub mod Gain
+pub mod Fit

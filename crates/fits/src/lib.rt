@@ -1,4 +1,5 @@
 // The fits of a strong sender's elements.
+pub mod fit;
 pub mod gain;
 pub mod interior;
 pub mod line;

@@ -1,0 +1,46 @@
+-- The fit of an element (01, part 4: `fit_elements`), and the fits of a list of elements. Definitions only.
+use Prim.Native.Nat.{ℕ, _-_}
+use mathlib.Core.Bool.{cond}
+use mathlib.Core.List.{List, [], _∷_, _++_}
+use lib.Ieee.{Float, le}
+use Rattle.float.specs.Ops.{_⊘_, zero}
+use Rattle.complex.specs.Cx.{cDiv}
+use Rattle.row.specs.Window.{samples}
+use Rattle.elements.specs.declared.element.KeyedElement.{KeyedElement}
+use Rattle.fits.specs.declared.interior.Interior.{Interior}
+use Rattle.fits.specs.declared.interior.Interior.the-variants.{Inside, Nothing}
+use Rattle.fits.specs.declared.fit.ElementFit.{ElementFit}
+use Rattle.fits.specs.declared.fit.Fit.{Fit}
+use Rattle.fits.specs.declared.fit.Fit.the-variants.{Fitted, Skipped}
+use Rattle.fits.specs.Interior.{interiorOf, blockOf}
+use Rattle.fits.specs.Slope.{slopeOf}
+use Rattle.fits.specs.Gain.{refSample, gainSum, hannSum}
+
+-- The fit over the samples from i0 up to, not including, i1. A fit holds its element, gain, slope and reference sample.
+-- The gain is acc / wacc; an element whose weights do not add up to more than 0 is skipped.
+unfoldable pub fitInside : List Float → Float → ℕ → KeyedElement → ℕ → ℕ → Fit
+fitInside iq cyc block e i0 i1 =
+    let len = i1 - i0 in
+    let slope = slopeOf iq cyc i0 len block in
+    let ref = refSample i0 i1 in
+    let gain = cDiv (gainSum iq cyc i0 len slope ref) (hannSum len) in
+    cond (le (hannSum len) zero) Skipped (Fitted record { element = e; gain = gain; «slope_rad_per_sample» = slope; «ref_sample» = ref })
+
+-- an element with no interior is skipped
+unfoldable pub fitWithin : List Float → Float → ℕ → KeyedElement → Interior → Fit
+fitWithin iq cyc block e (Inside i0 i1) = fitInside iq cyc block e i0 i1
+fitWithin iq cyc block e Nothing = Skipped
+
+-- the fit of an element in a recording at a rate, derotated by cyc cycles a sample
+unfoldable pub fitOf : List Float → Float → Float → KeyedElement → Fit
+fitOf iq fs cyc e = fitWithin iq cyc (blockOf fs) e (interiorOf (samples iq) fs (e .start) (e .end))
+
+-- what a list of fits has of it: the fit, or nothing of a skipped element
+abbrev pub kept : Fit → List ElementFit
+kept (Fitted f) = f ∷ []
+kept Skipped = []
+
+-- `fit_elements`: the fits of those elements, in order, that get one
+unfoldable pub fitsOf : List Float → Float → Float → List KeyedElement → List ElementFit
+fitsOf iq fs carrier [] = []
+fitsOf iq fs carrier (e ∷ es) = kept (fitOf iq fs (carrier ⊘ fs) e) ++ fitsOf iq fs carrier es

@@ -1,0 +1,65 @@
+// The fit of one element.
+use crate::gain::weigh;
+use crate::interior::Interior;
+use crate::interior::interior_of;
+use crate::interior::slope_block;
+use crate::slope::phase_slope;
+use complex::Complex;
+use elements::KeyedElement;
+ghost use mathlib.Core.Path.{_≡_};
+ghost use Prim.Native.Nat.{_+_, _-_, _*_, _/_, _≤_, _<_};
+ghost use lib.Dec.{T};
+ghost use lib.ListN.{length};
+ghost use Rattle.trig.specs.Sine.{sineTable};
+ghost use Rattle.row.specs.Samples.{Iq};
+ghost use Rattle.row.specs.Window.{Rate, stepBlocks};
+ghost use Rattle.fits.specs.Interior.{sized};
+ghost use Rattle.fits.specs.Fit.{fitInside, fitOf};
+
+// Rust: ElementFit.
+pub struct ElementFit {
+    pub element: KeyedElement,
+    pub gain: Complex,
+    pub slope_rad_per_sample: f64,
+    pub ref_sample: f64,
+}
+
+// What `fit_elements` has for an element: its fit, or nothing where it is skipped.
+pub enum Fit {
+    Fitted(ElementFit),
+    Skipped,
+}
+
+// Rust: `fit_elements`, of one element whose interior goes from i0 up to, not including, i1.
+fn fit_inside(
+    iq: &[f32],
+    cyc: f64,
+    block: usize,
+    e: KeyedElement,
+    i0: usize,
+    i1: usize,
+    work: &mut [f64],
+    sine: &[u64; 1025],
+) -> Fit
+    requires { ⌜ Iq (now iq) ⌝ }
+    requires { ⌜ now sine ≡ sineTable ⌝ }
+    requires { ⌜ i0 < i1 ⌝ }
+    requires { ⌜ 2 * i1 ≤ length (now iq) ⌝ }
+    requires { ⌜ 1 ≤ block ⌝ }
+    requires { ⌜ 2 * ((i1 - i0) / block) ≤ length (now work) ⌝ }
+    ensures { λ r. ⌜ r ≡ fitInside (now (iq .entry)) cyc block e i0 i1 ⌝ }
+{
+    let len = i1 - i0;
+    let reference = float::exact(i0 + i1 - 1) / 2.0;
+    let slope = phase_slope(iq, cyc, i0, len, block, work, sine);
+    let w = weigh(iq, cyc, i0, len, slope, reference, sine);
+    if w.weight <= 0.0 {
+        return Fit::Skipped;
+    }
+    Fit::Fitted(ElementFit {
+        element: e,
+        gain: w.sum.div_real(w.weight),
+        slope_rad_per_sample: slope,
+        ref_sample: reference,
+    })
+}
