@@ -38,6 +38,10 @@ max-over x = go (isNan x) (lt x one) refl refl
 max-mono : (x y : Float) → T (le x y) → toUnsigned 64 (maxOf x one) ≤ toUnsigned 64 (maxOf y one)
 max-mono x y h = max-high x (toUnsigned 64 (maxOf y one)) (max-low y) (le-trans (unsigned-mono 64 x y h) (max-over y))
 
+pub block-some : (fs : Float) → 1 ≤ blockOf fs
+unfolding blockOf
+block-some fs = max-low (roundOf (SLOPE_BLOCK_S ⊗ fs))
+
 -- ---- step and block grow with the rate
 window-pos : T (positive EDGE_WINDOW_S) × T (le EDGE_WINDOW_S EDGE_WINDOW_S)
 unfolding EDGE_WINDOW_S fraction round le lt eq

@@ -2,6 +2,7 @@
 use Prim.Native.Nat.{ℕ, _-_}
 use mathlib.Core.Bool.{cond}
 use mathlib.Core.List.{List, [], _∷_, _++_}
+use lib.Dec.{T}
 use lib.Ieee.{Float, le}
 use Rattle.float.specs.Ops.{_⊘_, zero}
 use Rattle.complex.specs.Cx.{cDiv}
@@ -12,7 +13,7 @@ use Rattle.fits.specs.declared.interior.Interior.the-variants.{Inside, N
 use Rattle.fits.specs.declared.fit.ElementFit.{ElementFit}
 use Rattle.fits.specs.declared.fit.Fit.{Fit}
 use Rattle.fits.specs.declared.fit.Fit.the-variants.{Fitted, Skipped}
-use Rattle.fits.specs.Interior.{interiorOf, blockOf}
+use Rattle.fits.specs.Interior.{sized, interiorOf, blockOf}
 use Rattle.fits.specs.Slope.{slopeOf}
 use Rattle.fits.specs.Gain.{refSample, gainSum, hannSum}
 
@@ -34,6 +35,11 @@ fitWithin iq cyc block e Nothing = Skipped
 -- the fit of an element in a recording at a rate, derotated by cyc cycles a sample
 unfoldable pub fitOf : List Float → Float → Float → KeyedElement → Fit
 fitOf iq fs cyc e = fitWithin iq cyc (blockOf fs) e (interiorOf (samples iq) fs (e .start) (e .end))
+
+-- what the functions behind question 7 require of an element: its times are finite, and of size at most 2^200
+pub record Timed (e : KeyedElement) : Type 0 where
+  pub first : T (sized (e .start))
+  pub last : T (sized (e .end))
 
 -- what a list of fits has of it: the fit, or nothing of a skipped element
 abbrev pub kept : Fit → List ElementFit

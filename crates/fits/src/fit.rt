@@ -8,13 +8,11 @@ use complex::Complex;
 use elements::KeyedElement;
 ghost use mathlib.Core.Path.{_≡_};
 ghost use Prim.Native.Nat.{_+_, _-_, _*_, _/_, _≤_, _<_};
-ghost use lib.Dec.{T};
 ghost use lib.ListN.{length};
 ghost use Rattle.trig.specs.Sine.{sineTable};
 ghost use Rattle.row.specs.Samples.{Iq};
 ghost use Rattle.row.specs.Window.{Rate, stepBlocks};
-ghost use Rattle.fits.specs.Interior.{sized};
-ghost use Rattle.fits.specs.Fit.{fitInside, fitOf};
+ghost use Rattle.fits.specs.Fit.{Timed, fitInside, fitOf};
 
 // Rust: ElementFit.
 pub struct ElementFit {
@@ -62,4 +60,28 @@ fn fit_inside(
         slope_rad_per_sample: slope,
         ref_sample: reference,
     })
+}
+
+// Rust: `fit_elements`, of one element.
+pub fn fit_one(
+    iq: &[f32],
+    fs: f64,
+    cyc: f64,
+    e: KeyedElement,
+    work: &mut [f64],
+    sine: &[u64; 1025],
+) -> Fit
+    requires { ⌜ Iq (now iq) ⌝ }
+    requires { ⌜ Rate fs ⌝ }
+    requires { ⌜ now sine ≡ sineTable ⌝ }
+    requires { ⌜ Timed e ⌝ }
+    requires { ⌜ 4 * stepBlocks (now iq) fs ≤ length (now work) ⌝ }
+    ensures { λ r. ⌜ r ≡ fitOf (now (iq .entry)) fs cyc e ⌝ }
+{
+    let n = iq.len() / 2;
+    let block = slope_block(fs);
+    let Interior::Inside { first, past } = interior_of(n, fs, e.start, e.end) else {
+        return Fit::Skipped;
+    };
+    fit_inside(iq, cyc, block, e, first, past, work, sine)
 }
