@@ -6,3 +6,4 @@ pub mod Line
 pub mod Slope
 pub mod Gain
 pub mod Fit
+pub mod Lists

@@ -3,4 +3,5 @@ pub mod fit;
 pub mod gain;
 pub mod interior;
 pub mod line;
+pub mod list;
 pub mod slope;
