@@ -15,7 +15,7 @@ firsts f zero = []
 firsts f (suc n) = firsts f n ++ (f n ∷ [])
 
 -- the elements at the first n places of a list
-abbrev pub elementsIn : List Float → ℕ → List KeyedElement
+unfoldable pub elementsIn : List Float → ℕ → List KeyedElement
 elementsIn l n = firsts (elementAt l) n
 
 -- what the functions behind question 7 require of each of them
@@ -33,7 +33,7 @@ putFit l p f =
     set (set (zSet (putElement l (2 * p) (f .element)) (4 * p + 2) (f .gain)) (8 * p + 6) (f .«slope_rad_per_sample»)) (8 * p + 7) (f .«ref_sample»)
 
 -- the fits at the first n places of a list
-abbrev pub fitsIn : List Float → ℕ → List ElementFit
+unfoldable pub fitsIn : List Float → ℕ → List ElementFit
 fitsIn l n = firsts (fitAt l) n
 
 -- fits stored one after the other from place p on

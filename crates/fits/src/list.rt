@@ -44,3 +44,33 @@ fn keep(fits: &mut [f64], p: usize, fit: Fit) -> usize
     put_fit(fits, p, f);
     p + 1
 }
+
+// Rust: fit_elements. The elements are the first `count` of a list, the fits go into another, and the answer is their number.
+pub fn fit_elements(
+    iq: &[f32],
+    fs: f64,
+    carrier: f64,
+    elements: &[f64],
+    count: usize,
+    fits: &mut [f64],
+    work: &mut [f64],
+    sine: &[u64; 1025],
+) -> usize
+    requires { ⌜ Iq (now iq) ⌝ }
+    requires { ⌜ Rate fs ⌝ }
+    requires { ⌜ now sine ≡ sineTable ⌝ }
+    requires { ⌜ AllTimed (now elements) count ⌝ }
+    requires { ⌜ 4 * count ≤ length (now elements) ⌝ }
+    requires { ⌜ 8 * count ≤ length (now fits) ⌝ }
+    requires { ⌜ 4 * stepBlocks (now iq) fs ≤ length (now work) ⌝ }
+    ensures { λ r. ⌜ (r ≡ length (fitsOf (now (iq .entry)) fs carrier (elementsIn (now (elements .entry)) count)))
+        × (now (fits .exit) ≡ storedFits (now (fits .entry)) (fitsOf (now (iq .entry)) fs carrier (elementsIn (now (elements .entry)) count))) ⌝ }
+{
+    let cyc = carrier / fs;
+    let mut fitted: usize = 0;
+    for k in 0..count {
+        let fit = fit_one(iq, fs, cyc, elements::element_at(elements, k), work, sine);
+        fitted = keep(fits, fitted, fit);
+    }
+    fitted
+}
