@@ -7,3 +7,4 @@ pub mod Slope
 pub mod Gain
 pub mod Fit
 pub mod Lists
+pub mod Carrier

@@ -1,4 +1,5 @@
 // The fits of a strong sender's elements.
+pub mod carrier;
 pub mod fit;
 pub mod gain;
 pub mod interior;

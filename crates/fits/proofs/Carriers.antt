@@ -1,0 +1,43 @@
+-- Sums over the fits of a list, and the mean slope.
+use Prim.Native.Nat.{ℕ, suc, _+_, _≤_}
+use native.Mathlib.Numerals.{add-one}
+use native.Mathlib.Omega.{arith}
+use mathlib.Core.Path.{_≡_, refl}
+use mathlib.Core.Bool.{true, false}
+use mathlib.Core.List.{List, [], _∷_, _++_}
+use borrow.Author.Needs.{needs}
+use lib.Ieee.{Float, lt}
+use Rattle.float.specs.Ops.{_⊕_, _⊗_, _⊘_, bits, zero}
+use Rattle.trig.specs.Constants.{tau-bits}
+use Rattle.fits.specs.declared.fit.ElementFit.{ElementFit}
+use Rattle.fits.specs.Lists.{firsts, fitAt, fitsIn}
+use Rattle.fits.specs.Carrier.{sumOver, fitWeight, weightedSlope, meanSlope}
+
+over-more : (figure : ElementFit → Float) (start : Float) (fs : List ElementFit) (f : ElementFit) → sumOver figure start (fs ++ (f ∷ [])) ≡ sumOver figure start fs ⊕ figure f
+unfolding sumOver
+over-more figure start [] f = refl
+over-more figure start (e ∷ fs) f = over-more figure (start ⊕ figure e) fs f
+
+-- A loop over the fits of a list, at place k: before it, a turn of it, and after it.
+module _ (figure : ElementFit → Float) (l : List Float) where
+  pub over-none : zero ≡ sumOver figure zero (fitsIn l 0)
+  unfolding sumOver fitsIn firsts
+  over-none = refl
+
+  pub over-turn : (k : ℕ) (acc x r : Float) (f : ElementFit)
+      → acc ≡ sumOver figure zero (fitsIn l k) → f ≡ fitAt l k → x ≡ figure f → r ≡ acc ⊕ x → r ≡ sumOver figure zero (fitsIn l (k + 1))
+  unfolding fitsIn firsts
+  over-turn k acc x r f p e q h = rw (add-one, over-more figure zero (firsts (fitAt l) k) (fitAt l k), ← e, ← q, ← p, h)
+
+  pub over-done : (n k : ℕ) (acc : Float) → acc ≡ sumOver figure zero (fitsIn l k) → k ≤ n → n ≤ k → acc ≡ sumOver figure zero (fitsIn l n)
+  over-done n k acc p h g = let all : k ≡ n = omega arith in rw all at p
+
+-- ---- the two ways out of `mean_slope_hz`
+module _ (fs : Float) (fits : List ElementFit) (num den : Float) (n : num ≡ sumOver (weightedSlope fs) zero fits) (d : den ≡ sumOver (fitWeight fs) zero fits) where
+  pub mean-some : lt zero den ≡ true → num ⊘ den ⊗ fs ⊘ bits 0x4019_21fb_5444_2d18 ≡ meanSlope fs fits
+  unfolding meanSlope
+  mean-some h = rw (← d, ← n, h, tau-bits)
+
+  pub mean-none : lt zero den ≡ false → zero ≡ meanSlope fs fits
+  unfolding meanSlope
+  mean-none h = rw (← d, h)
