@@ -8,3 +8,4 @@ pub mod Gain
 pub mod Fit
 pub mod Lists
 pub mod Carrier
+pub mod Estimate

@@ -1,5 +1,6 @@
 // The fits of a strong sender's elements.
 pub mod carrier;
+pub mod estimate;
 pub mod fit;
 pub mod gain;
 pub mod interior;
