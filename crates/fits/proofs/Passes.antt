@@ -7,6 +7,7 @@ use mathlib.Core.List.{List, [], _∷_, List·Memᴰ, List·Memᴰ·head, List·
 use lib.Dec.{T, lit≤}
 use lib.ListN.{length, getD}
 use lib.Ieee.{Float, nan, inf, fin}
+use Rattle.float.specs.Ops.{_⊕_}
 use Rattle.float.proofs.Within.{Within, within-more, within-le}
 use Rattle.float.proofs.Bounds.{Bounded}
 use Rattle.row.specs.Samples.{Iq}
@@ -21,9 +22,12 @@ use Rattle.elements.proofs.Bounds.{Plain, found-bounded}
 use Rattle.elements.proofs.Recording.{listed-counted, all-counted, enough-places}
 use Rattle.fits.specs.Interior.{sized}
 use Rattle.fits.specs.Fit.{Timed, fitsOf}
-use Rattle.fits.specs.Lists.{AllTimed, elementsIn, storedFits}
-use Rattle.fits.specs.Estimate.{fitsFound}
-use Rattle.fits.proofs.Back.{elements-back}
+use Rattle.fits.specs.Lists.{AllTimed, elementsIn, fitsIn, storedFits}
+use Rattle.fits.specs.declared.estimate.Estimate.{Estimate}
+use Rattle.fits.specs.Carrier.{meanSlope}
+use Rattle.fits.specs.Estimate.{fitsFound, carrierStep, refined, strongElements, strongFits, strongEstimate}
+use Rattle.fits.proofs.Fitted.{fitted-few}
+use Rattle.fits.proofs.Back.{elements-back, fits-back}
 
 -- what stands in a list is one of it
 at-mem : {A : Type 0} (l : List A) (k : ℕ) (d : A) → k < length l → List·Memᴰ (getD l k d) l
@@ -70,3 +74,30 @@ module _ (iq : List Float) (fs carrier : Float) (lent : Iq iq) (rate : Rate fs) 
               rw (p, stored-read l (elementsFound iq fs carrier) k d below short)
               (record { first = bounded-sized _ (b .start-bounded); last = bounded-sized _ (b .end-bounded) });
         }
+
+-- ---- the estimate
+module _ (iq : List Float) (fs : Float) where
+  pub fits-few : (carrier : Float) → length (fitsFound iq fs carrier) ≤ stepBlocks iq fs / 2
+  unfolding fitsFound
+  fits-few carrier =
+      let fitted = fitted-few iq fs carrier (elementsFound iq fs carrier) in
+      let n = listed-counted iq fs carrier in
+      let all = all-counted iq fs carrier in
+      let most = enough-places iq fs carrier in
+      omega arith
+
+  module _ (hint : Float) where
+    pub step-is : (l cur : List Float) (count : ℕ) (r : Float) → 8 * (stepBlocks iq fs / 2) ≤ length l → count ≡ length (fitsFound iq fs hint) → cur ≡ storedFits l (fitsFound iq fs hint)
+        → r ≡ meanSlope fs (fitsIn cur count) → r ≡ carrierStep iq fs hint
+    unfolding carrierStep
+    step-is l cur count r room n p q =
+        let few = fits-few hint in
+        rw (q, n, p, fits-back l (fitsFound iq fs hint) (omega arith))
+
+    pub estimate-is : (step : Float) (found : Found) (fitted : ℕ) (l ls m ms : List Float) → step ≡ carrierStep iq fs hint
+        → found ≡ foundOf iq fs (hint ⊕ step) → fitted ≡ length (fitsFound iq fs (hint ⊕ step))
+        → ls ≡ stored l (elementsFound iq fs (hint ⊕ step)) → ms ≡ storedFits m (fitsFound iq fs (hint ⊕ step))
+        → (_≡_ {A = Estimate} (record { «carrier_hz» = hint ⊕ step; «carrier_step_hz» = step; found = found; fitted = fitted }) (strongEstimate iq fs hint))
+        × (ls ≡ stored l (strongElements iq fs hint)) × (ms ≡ storedFits m (strongFits iq fs hint))
+    unfolding strongEstimate strongElements strongFits refined
+    estimate-is step found fitted l ls m ms e f n p q = (rw (f, n, e), rw (p, e), rw (q, e))

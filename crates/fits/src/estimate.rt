@@ -54,3 +54,37 @@ pub struct Estimate {
     pub found: Found,
     pub fitted: usize,
 }
+
+// Rust: estimate_strong. Both lists hold the second pass from their start on, over what the first pass stored there.
+pub fn estimate_strong(
+    iq: &[f32],
+    fs: f64,
+    hint: f64,
+    elements: &mut [f64],
+    fits: &mut [f64],
+    work: &mut [f64],
+    sine: &[u64; 1025],
+) -> Estimate
+    requires { ⌜ Iq (now iq) ⌝ }
+    requires { ⌜ Rate fs ⌝ }
+    requires { ⌜ now sine ≡ sineTable ⌝ }
+    requires { ⌜ 4 * (stepBlocks (now iq) fs / 2) ≤ length (now elements) ⌝ }
+    requires { ⌜ 8 * (stepBlocks (now iq) fs / 2) ≤ length (now fits) ⌝ }
+    requires { ⌜ 4 * stepBlocks (now iq) fs ≤ length (now work) ⌝ }
+    ensures { λ r. ⌜ (r ≡ strongEstimate (now (iq .entry)) fs hint)
+        × (now (elements .exit) ≡ stored (stored (now (elements .entry)) (elementsFound (now (iq .entry)) fs hint)) (strongElements (now (iq .entry)) fs hint))
+        × (now (fits .exit) ≡ storedFits (storedFits (now (fits .entry)) (fitsFound (now (iq .entry)) fs hint)) (strongFits (now (iq .entry)) fs hint)) ⌝ }
+{
+    let first = find_and_fit(iq, fs, hint, elements, fits, work, sine);
+    let count = first.fitted;
+    let step = mean_slope_hz(fits, count, fs);
+    let carrier = hint + step;
+    let second = find_and_fit(iq, fs, carrier, elements, fits, work, sine);
+    let found = second.found;
+    Estimate {
+        carrier_hz: carrier,
+        carrier_step_hz: step,
+        found,
+        fitted: second.fitted,
+    }
+}
