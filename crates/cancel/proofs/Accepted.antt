@@ -14,8 +14,10 @@ use Rattle.row.specs.Window.{Rate, rateOk, stepBlocks}
 use Rattle.row.specs.Samples.{Iq, allFinite}
 use Rattle.row.proofs.Steps.{rate-is}
 use Rattle.cancel.specs.Answers.{Outcome, byNumber}
-use Rattle.cancel.specs.Questions.{Asked, ask, firstNo, countOk, carrierOk, placesOk, workOk, listsOk, recordingQuestions, carrierQuestions, findRoom, findQuestions}
+use Rattle.cancel.specs.Questions.{Asked, ask, firstNo, countOk, carrierOk, placesOk, workOk, listsOk, recordingQuestions, elementsOk, carrierQuestions, findRoom, findQuestions, estimateRoom, estimateQuestions, fitRoom, fitQuestions}
+use Rattle.fits.specs.Lists.{AllTimed}
 use Rattle.cancel.proofs.FirstNo.{head-yes, tail-yes}
+use Rattle.cancel.proofs.Given.{all-timed, given-fit}
 
 count-short : (n : ℕ) → countOk n ≡ true → n ≤ 2097152
 unfolding countOk
@@ -76,6 +78,55 @@ find-accepted iq fs hz elements work all =
       rate-ok = known .rate-ok;
       places = places-fit 4 (b / 2) elements (head-yes 4 (placesOk 4 (b / 2) elements) (ask 6 (workOk b work) ∷ []) last);
       room = work-fits b work (head-yes 5 (workOk b work) [] (tail-yes 4 (placesOk 4 (b / 2) elements) (ask 6 (workOk b work) ∷ []) last));
+    }
+
+-- what estimate_strong goes on with
+pub record Estimated (iq : List Float) (fs : Float) (elements fits work : ℕ) : Type 0 where
+  pub iq-ok : Iq iq
+  pub rate-ok : Rate fs
+  pub places : 4 * (stepBlocks iq fs / 2) ≤ elements
+  pub fit-places : 8 * (stepBlocks iq fs / 2) ≤ fits
+  pub room : 4 * stepBlocks iq fs ≤ work
+
+pub estimate-accepted : (iq : List Float) (fs hz : Float) (elements fits work : ℕ) → firstNo (estimateQuestions iq fs hz elements fits work) ≡ 0
+    → Estimated iq fs elements fits work
+estimate-accepted iq fs hz elements fits work all =
+    let b = stepBlocks iq fs in
+    let known = sound iq fs hz (estimateRoom b elements fits work) all in
+    let last = rest-yes iq fs hz (estimateRoom b elements fits work) all in
+    let both = head-yes 4 (listsOk b elements fits) (ask 6 (workOk b work) ∷ []) last in
+    record {
+      iq-ok = known .iq-ok;
+      rate-ok = known .rate-ok;
+      places = lists-elements b elements fits both;
+      fit-places = lists-fits b elements fits both;
+      room = work-fits b work (head-yes 5 (workOk b work) [] (tail-yes 4 (listsOk b elements fits) (ask 6 (workOk b work) ∷ []) last));
+    }
+
+-- what fit_elements goes on with
+pub record Given (iq : List Float) (fs : Float) (elements : List Float) (count fits work : ℕ) : Type 0 where
+  pub iq-ok : Iq iq
+  pub rate-ok : Rate fs
+  pub timed : AllTimed elements count
+  pub given : 4 * count ≤ length elements
+  pub fit-places : 8 * count ≤ fits
+  pub room : 4 * stepBlocks iq fs ≤ work
+
+pub fit-accepted : (iq : List Float) (fs hz : Float) (elements : List Float) (count fits work : ℕ) → firstNo (fitQuestions iq fs hz elements count fits work) ≡ 0
+    → Given iq fs elements count fits work
+fit-accepted iq fs hz elements count fits work all =
+    let b = stepBlocks iq fs in
+    let known = sound iq fs hz (fitRoom b elements count fits work) all in
+    let fifth = rest-yes iq fs hz (fitRoom b elements count fits work) all in
+    let sixth = tail-yes 4 (placesOk 8 count fits) (ask 6 (workOk b work) ∷ ask 7 (elementsOk elements count) ∷ []) fifth in
+    let seventh = head-yes 6 (elementsOk elements count) [] (tail-yes 5 (workOk b work) (ask 7 (elementsOk elements count) ∷ []) sixth) in
+    record {
+      iq-ok = known .iq-ok;
+      rate-ok = known .rate-ok;
+      timed = all-timed elements count seventh;
+      given = given-fit elements count seventh;
+      fit-places = places-fit 8 count fits (head-yes 4 (placesOk 8 count fits) (ask 6 (workOk b work) ∷ ask 7 (elementsOk elements count) ∷ []) fifth);
+      room = work-fits b work (head-yes 5 (workOk b work) (ask 7 (elementsOk elements count) ∷ []) sixth);
     }
 
 -- the two ways out

@@ -2,3 +2,5 @@
 pub mod Questions
 pub mod Answers
 pub mod Find
+pub mod Fit
+pub mod Estimate

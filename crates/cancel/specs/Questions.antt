@@ -13,6 +13,7 @@ use Rattle.row.specs.Samples.{finiteF, allFinite}
 use Rattle.row.specs.Window.{rateOk, stepBlocks}
 use Rattle.elements.specs.declared.element.KeyedElement.{KeyedElement}
 use Rattle.elements.specs.Found.{elementAt}
+use Rattle.fits.specs.Interior.{sized}
 
 -- a question with its number, and whether the answer is yes
 pub data Asked : Type 0 where
@@ -47,7 +48,7 @@ workOk b len = leb (4 * b) len
 
 -- 7. Is a given number finite and of size at most 2^200?
 unfoldable pub sizeOk : Float → Bool
-sizeOk x = finiteF x && le (absOf x) (2^ 200)
+sizeOk x = finiteF x && sized x
 
 -- Is a given up or down a whole number from 0, below 2^20?
 unfoldable pub positionOk : Float → Bool

@@ -1,16 +1,17 @@
 -- `cancel::questions::size_ok` meets its contract. Assumes nothing.
 use borrow.Author.Needs.{needs}
 use lib.Ieee.{ofBits}
+use Rattle.fits.specs.Interior.{sized}
 use Rattle.cancel.specs.Questions.{sizeOk}
 use Rattle.cancel.proofs.questions.size_ok.Statement.{statement}
 use Rattle.cancel.proofs.questions.size_ok.Tie as tie
 
 returns : tie.Need-returns
-unfolding sizeOk ofBits
+unfolding sizeOk sized ofBits
 returns c = rw (c .abs .ensures, ← c .before .before .is-number .ensures, c .before .if1 .taken)
 
 returns-2 : tie.Need-returns-2
-unfolding sizeOk ofBits
+unfolding sizeOk sized ofBits
 returns-2 c = rw (← c .before .is-number .ensures, c .if1 .left)
 
 pub size-ok-spec : {M : Type 1} → statement M

@@ -1,0 +1,44 @@
+-- `cancel::estimate_strong` meets its contract: the first no is the answer, and where there is none, what the work below estimates. Assumes nothing.
+use mathlib.Core.Path.{_≡_, refl, sym, _∙_}
+use denote.Ref.{now}
+use lib.ListN.{length}
+use borrow.Author.Needs.{needs}
+use Rattle.trig.specs.Sine.{sineTable}
+use Rattle.cancel.specs.Questions.{firstNo, estimateQuestions}
+use Rattle.cancel.specs.Estimate.{estimateRule}
+use Rattle.cancel.proofs.Accepted.{estimate-accepted, refused, accepted}
+use Rattle.cancel.proofs.estimate.estimate_strong.Statement.{statement}
+use Rattle.cancel.proofs.estimate.estimate_strong.Tie as tie
+
+-- where no question was answered no
+all-yes : (c : tie.Else1) →
+    let s = c .before .before .before .before .before .before in
+    firstNo
+    (estimateQuestions (now (s .args .iq)) (s .args .fs) (s .args .hint-hz) (length (now (s .args .elements))) (length (now (s .args .fits))) (length (now (s .args .work))))
+    ≡ 0
+all-yes c = sym (c .before .estimate-no .ensures) ∙ c .if1 .left
+
+estimate-strong-requires : tie.Need-estimate-strong-requires
+unfolding sineTable
+estimate-strong-requires c κs =
+    let s = c .before .before .before .before .before .before .before .before .before .before in
+    let known =
+    estimate-accepted (now (s .args .iq)) (s .args .fs) (s .args .hint-hz) (length (now (s .args .elements))) (length (now (s .args .fits))) (length (now (s .args .work)))
+    (all-yes (c .before .before .before .before)) in
+    (known .iq-ok, (known .rate-ok, (refl, (known .places, (known .fit-places, known .room)))))
+
+returns : tie.Need-returns
+unfolding estimateRule
+returns c = refused _ _ _ _ _ (c .before .estimate-no .ensures) (c .if1 .taken) (rw (c .before .estimate-no .ensures))
+
+returns-2 : tie.Need-returns-2
+unfolding estimateRule
+returns-2 c =
+    let done = c .before .before .before .before .before .before in
+    let asked = done .before .before .before .before .before in
+    accepted _ _ _ _ _ (asked .before .estimate-no .ensures) (asked .if1 .left)
+    (rw (done .estimate-strong .ensures .0, done .estimate-strong .ensures .1, done .estimate-strong .ensures .2))
+
+pub estimate-strong-spec : {M : Type 1} → statement M
+estimate-strong-spec =
+    tie.close (tie.spec (λ c κs. search needs) returns estimate-strong-requires (λ c. search needs) (λ c. search needs) (λ c. search needs) returns-2)

@@ -1,0 +1,43 @@
+-- `cancel::fit_elements` meets its contract: the first no is the answer, and where there is none, what the work below fits. Assumes nothing.
+use mathlib.Core.Path.{_≡_, refl, sym, _∙_}
+use denote.Ref.{now}
+use lib.ListN.{length}
+use borrow.Author.Needs.{needs}
+use Rattle.trig.specs.Sine.{sineTable}
+use Rattle.cancel.specs.Questions.{firstNo, fitQuestions}
+use Rattle.cancel.specs.Fit.{fitRule}
+use Rattle.cancel.proofs.Accepted.{fit-accepted, refused, accepted}
+use Rattle.cancel.proofs.fit.fit_elements.Statement.{statement}
+use Rattle.cancel.proofs.fit.fit_elements.Tie as tie
+
+-- where no question was answered no
+all-yes : (c : tie.Else1) →
+    let s = c .before .before .before .before .before .before in
+    firstNo
+    (fitQuestions (now (s .args .iq)) (s .args .fs) (s .args .carrier-hz) (now (s .args .elements)) (s .args .count) (length (now (s .args .fits))) (length (now (s .args .work))))
+    ≡ 0
+all-yes c = sym (c .before .fit-no .ensures) ∙ c .if1 .left
+
+fit-elements-requires : tie.Need-fit-elements-requires
+unfolding sineTable
+fit-elements-requires c κs =
+    let s = c .before .before .before .before .before .before .before .before .before in
+    let known =
+    fit-accepted (now (s .args .iq)) (s .args .fs) (s .args .carrier-hz) (now (s .args .elements)) (s .args .count) (length (now (s .args .fits))) (length (now (s .args .work)))
+    (all-yes (c .before .before .before)) in
+    (known .iq-ok, (known .rate-ok, (refl, (known .timed, (known .given, (known .fit-places, known .room))))))
+
+returns : tie.Need-returns
+unfolding fitRule
+returns c = refused _ _ _ _ _ (c .before .fit-no .ensures) (c .if1 .taken) (rw (c .before .fit-no .ensures))
+
+returns-2 : tie.Need-returns-2
+unfolding fitRule
+returns-2 c =
+    let fitted = c .before .before .before .before in
+    let asked = fitted .before .before .before .before in
+    accepted _ _ _ _ _ (asked .before .fit-no .ensures) (asked .if1 .left) (rw (fitted .fit-elements .ensures .0, fitted .fit-elements .ensures .1))
+
+pub fit-elements-spec : {M : Type 1} → statement M
+fit-elements-spec =
+    tie.close (tie.spec (λ c κs. search needs) returns fit-elements-requires (λ c. search needs) (λ c. search needs) returns-2)
