@@ -8,9 +8,13 @@ use lib.ListN.{length}
 use lib.Ieee.{Float}
 use Rattle.elements.specs.Found.{none, stored}
 use Rattle.elements.specs.Find.{foundOf, elementsFound}
-use Rattle.cancel.specs.Questions.{firstNo, findQuestions}
+use Rattle.fits.specs.Lists.{storedFits}
+use Rattle.fits.specs.Estimate.{fitsFound, strongEstimate, strongElements, strongFits}
+use Rattle.cancel.specs.Questions.{firstNo, findQuestions, fitQuestions, estimateQuestions}
 use Rattle.cancel.specs.Answers.{Outcome, outcome, byNumber}
 use Rattle.cancel.specs.Find.{findRule}
+use Rattle.cancel.specs.Fit.{fitsGiven, fitRule}
+use Rattle.cancel.specs.Estimate.{noEstimate, estimateRule}
 use Rattle.capi.specs.Calls.{Called, called, calledBy}
 
 -- a refusal's number is not 0
@@ -25,6 +29,20 @@ pub find-numbered : (iq : List Float) (fs hz : Float) (elements work : List Floa
 unfolding findRule
 find-numbered iq fs hz elements work =
     numbered-by (firstNo (findQuestions iq fs hz (length elements) (length work))) (foundOf iq fs hz) none (stored elements (elementsFound iq fs hz) ∷ []) (elements ∷ []) [] work
+
+pub fit-numbered : (iq : List Float) (fs hz : Float) (elements : List Float) (count : ℕ) (fits work : List Float) → Numbered (fitRule iq fs hz elements count fits work)
+unfolding fitRule
+fit-numbered iq fs hz elements count fits work =
+    let given = fitsGiven iq fs hz elements count in
+    numbered-by (firstNo (fitQuestions iq fs hz elements count (length fits) (length work))) (length given) 0 (storedFits fits given ∷ []) (fits ∷ []) [] work
+
+pub estimate-numbered : (iq : List Float) (fs hint : Float) (elements fits work : List Float) → Numbered (estimateRule iq fs hint elements fits work)
+unfolding estimateRule
+estimate-numbered iq fs hint elements fits work =
+    let listed = stored (stored elements (elementsFound iq fs hint)) (strongElements iq fs hint) in
+    let fitted = storedFits (storedFits fits (fitsFound iq fs hint)) (strongFits iq fs hint) in
+    numbered-by (firstNo (estimateQuestions iq fs hint (length elements) (length fits) (length work))) (strongEstimate iq fs hint) noEstimate (listed ∷ fitted ∷ [])
+    (elements ∷ fits ∷ []) [] work
 
 called-refused : (n : ℕ) (l : List (List Float)) (w f : List Float) → (n ≡ 0 → ⊥) → called n l w f ≡ record { number = n; lists = l; work = w; figures = f }
 called-refused zero l w f h = absurd (h refl)

@@ -5,8 +5,11 @@ use mathlib.Core.List.{List, [], _∷_}
 use lib.Ieee.{Float}
 use Rattle.float.specs.Ops.{of}
 use Rattle.elements.specs.declared.keying.Found.{Found}
+use Rattle.fits.specs.declared.estimate.Estimate.{Estimate}
 use Rattle.cancel.specs.Answers.{Outcome}
 use Rattle.cancel.specs.Find.{findRule}
+use Rattle.cancel.specs.Fit.{fitRule}
+use Rattle.cancel.specs.Estimate.{estimateRule}
 
 -- The number; what each lent list holds; the work slice, which is free where the number is 0; the figures.
 pub record Called : Type 0 where
@@ -33,3 +36,19 @@ foundFigures f = of (f .«key_downs») ∷ of (f .listed) ∷ of (f .short) ∷ 
 
 unfoldable pub findCall : List Float → Float → Float → List Float → List Float → List Float → Called
 findCall iq fs hz elements work figures = calledBy foundFigures (findRule iq fs hz elements work) figures
+
+-- figures of cancel_fit_elements: fitted
+abbrev pub fittedFigures : ℕ → List Float
+fittedFigures fitted = of fitted ∷ []
+
+unfoldable pub fitCall : List Float → Float → Float → List Float → ℕ → List Float → List Float → List Float → Called
+fitCall iq fs hz elements count fits work figures = calledBy fittedFigures (fitRule iq fs hz elements count fits work) figures
+
+-- figures of cancel_estimate_strong: carrier_hz, carrier_step_hz, key-downs, listed, short, airtime, fitted
+abbrev pub estimateFigures : Estimate → List Float
+estimateFigures e =
+    e .«carrier_hz» ∷ e .«carrier_step_hz» ∷ of (e .found .«key_downs») ∷ of (e .found .listed) ∷ of (e .found .short) ∷ of (e .found .airtime)
+    ∷ of (e .fitted) ∷ []
+
+unfoldable pub estimateCall : List Float → Float → Float → List Float → List Float → List Float → List Float → Called
+estimateCall iq fs hint elements fits work figures = calledBy estimateFigures (estimateRule iq fs hint elements fits work) figures

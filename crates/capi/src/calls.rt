@@ -1,9 +1,11 @@
 // The calls of the program, for C: each returns 0 or a refusal's number, and writes figures where it returns 0.
+use cancel::EstimateAnswer;
 use cancel::FindAnswer;
+use cancel::FitAnswer;
 use std::num::nearest_u64_to_f64;
 ghost use mathlib.Core.Path.{_≡_};
 ghost use mathlib.Core.List.{[], _∷_};
-ghost use Rattle.capi.specs.Calls.{called, findCall};
+ghost use Rattle.capi.specs.Calls.{called, findCall, fitCall, estimateCall};
 
 #[no_mangle]
 pub extern "C" fn cancel_find_elements(
@@ -25,6 +27,60 @@ pub extern "C" fn cancel_find_elements(
                 nearest_u64_to_f64(f.listed as u64),
                 nearest_u64_to_f64(f.short as u64),
                 nearest_u64_to_f64(f.airtime as u64),
+            ];
+            0
+        }
+    }
+}
+
+#[no_mangle]
+pub extern "C" fn cancel_fit_elements(
+    iq: &[f32],
+    fs: f64,
+    carrier_hz: f64,
+    elements: &[f64],
+    element_count: usize,
+    fits: &mut [f64],
+    work: &mut [f64],
+    figures: &mut [f64; 1],
+) -> u64
+    ensures { λ r. ⌜ called r (now (fits .exit) ∷ []) (now (work .exit)) (now (figures .exit))
+        ≡ fitCall (now (iq .entry)) fs «carrier_hz» (now (elements .entry)) «element_count» (now (fits .entry)) (now (work .entry)) (now (figures .entry)) ⌝ }
+{
+    match cancel::fit_elements(iq, fs, carrier_hz, elements, element_count, fits, work) {
+        FitAnswer::Refused(no) => no,
+        FitAnswer::Done(fitted) => {
+            *figures = [nearest_u64_to_f64(fitted as u64)];
+            0
+        }
+    }
+}
+
+#[no_mangle]
+pub extern "C" fn cancel_estimate_strong(
+    iq: &[f32],
+    fs: f64,
+    hint_hz: f64,
+    elements: &mut [f64],
+    fits: &mut [f64],
+    work: &mut [f64],
+    figures: &mut [f64; 7],
+) -> u64
+    ensures { λ r. ⌜ called r (now (elements .exit) ∷ now (fits .exit) ∷ []) (now (work .exit)) (now (figures .exit))
+        ≡ estimateCall (now (iq .entry)) fs «hint_hz» (now (elements .entry)) (now (fits .entry)) (now (work .entry)) (now (figures .entry)) ⌝ }
+{
+    match cancel::estimate_strong(iq, fs, hint_hz, elements, fits, work) {
+        EstimateAnswer::Refused(no) => no,
+        EstimateAnswer::Done(e) => {
+            let found = e.found;
+            *figures = [
+                e.carrier_hz,
+                e.carrier_step_hz,
+                nearest_u64_to_f64(found.key_downs as u64),
+                nearest_u64_to_f64(found.listed as u64),
+                nearest_u64_to_f64(found.short as u64),
+                nearest_u64_to_f64(found.airtime as u64),
+                nearest_u64_to_f64(e.fitted as u64),
             ];
             0
         }
