@@ -71,7 +71,9 @@ fn too_few_places(s: &mut Scene, r: &mut Random) {
     if r.chance(0.7) {
         s.fits_len = (places * FIT).saturating_sub(1);
     }
-    s.given_fits_len = (s.given.element_count * FIT).saturating_sub(1);
+    // A count beyond any list has no list that is one number short of it.
+    let numbers = s.given.element_count.checked_mul(FIT).unwrap_or(FIT).min(1 << 20);
+    s.given_fits_len = numbers.saturating_sub(1);
 }
 
 fn wrong_given(s: &mut Scene, r: &mut Random) {
