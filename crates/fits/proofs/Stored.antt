@@ -5,7 +5,6 @@ use native.Mathlib.Numerals.{add-one}
 use native.Mathlib.Omega.{arith}
 use mathlib.Core.Path.{_≡_, refl, sym, ap, ap₂, _∙_}
 use mathlib.Core.List.{List, [], _∷_, _++_, append-assoc, append-nil}
-use lib.Dec.{lit≤}
 use lib.ListN.{length, getD, set, length-set, length-append}
 use lib.Seq.{getD-set-same, getD-set-other}
 use lib.Ieee.{Float, nan}
@@ -17,6 +16,7 @@ use Rattle.fits.specs.declared.fit.Fit.{Fit}
 use Rattle.fits.specs.declared.fit.Fit.the-variants.{Fitted, Skipped}
 use Rattle.fits.specs.Fit.{kept, fitOf, fitsOf}
 use Rattle.fits.specs.Lists.{firsts, elementsIn, fitAt, putFit, fitsIn, fitsFrom, storedFits}
+use Rattle.fits.proofs.Fitted.{one-kept}
 
 -- ---- the two ways out of `keep`
 pub keep-none : (l : List Float) (p : ℕ) (fit : Fit) → fit ≡ Skipped → (p ≡ p + length (kept fit)) × (l ≡ fitsFrom l p (kept fit))
@@ -42,10 +42,6 @@ from-more l p [] gs = rw (add-zero p)
 from-more l p (f ∷ fs) gs =
     let here : suc p + length fs ≡ p + suc (length fs) = omega arith in
     from-more (putFit l p f) (suc p) fs gs ∙ ap (λ q. fitsFrom (fitsFrom (putFit l p f) (suc p) fs) q gs) here
-
-one-kept : (fit : Fit) → length (kept fit) ≤ 1
-one-kept (Fitted f) = lit≤ tt
-one-kept Skipped = lit≤ tt
 
 pub fits-few : (fitted r k : ℕ) (fit : Fit) → fitted ≤ k → r ≡ fitted + length (kept fit) → r ≤ k + 1
 fits-few fitted r k fit h e = let one = one-kept fit in omega arith

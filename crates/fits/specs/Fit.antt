@@ -50,3 +50,12 @@ kept Skipped = []
 unfoldable pub fitsOf : List Float → Float → Float → List KeyedElement → List ElementFit
 fitsOf iq fs carrier [] = []
 fitsOf iq fs carrier (e ∷ es) = kept (fitOf iq fs (carrier ⊘ fs) e) ++ fitsOf iq fs carrier es
+
+-- skipped: the listed elements that get no fit
+abbrev pub left : Fit → KeyedElement → List KeyedElement
+left (Fitted f) e = []
+left Skipped e = e ∷ []
+
+unfoldable pub skippedOf : List Float → Float → Float → List KeyedElement → List KeyedElement
+skippedOf iq fs carrier [] = []
+skippedOf iq fs carrier (e ∷ es) = left (fitOf iq fs (carrier ⊘ fs) e) e ++ skippedOf iq fs carrier es
