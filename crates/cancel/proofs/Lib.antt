@@ -1,5 +1,4 @@
 -- Laws that the proofs of `cancel` share.
-pub mod Numbers
 pub mod FirstNo
 pub mod Given
 pub mod Accepted

@@ -19,7 +19,7 @@ fn is_number(x: f64) -> bool
     ensures { λ r. ⌜ r ≡ finiteF x ⌝ }
 {
     let top = f64::from_bits(0x7ff0_0000_0000_0000);
-    if x < top { x > -top } else { false }
+    x < top && x > -top
 }
 
 // 4: the hint or the carrier is finite, of size at most fs/2.

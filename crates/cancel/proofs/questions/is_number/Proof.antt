@@ -1,6 +1,6 @@
 -- `cancel::questions::is_number` meets its contract. Assumes nothing.
 use lib.Ieee.{nanBits, ofBits, neg}
-use Rattle.cancel.proofs.Numbers.{below-top, not-below-top}
+use Rattle.row.proofs.Finite.{below-top, not-below-top}
 use Rattle.cancel.proofs.questions.is_number.Statement.{statement}
 use Rattle.cancel.proofs.questions.is_number.Tie as tie
 
