@@ -1,0 +1,3 @@
+-- The laws behind the proofs of `report`.
+pub mod Patterns
+pub mod Laws
