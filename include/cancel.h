@@ -14,7 +14,7 @@
  * row). A fit is 8 doubles: its element's four, gain (real, imaginary), phase slope (radians a sample), reference sample.
  * A place of a list is one record; numbers after the last whole place are no place and are never written.
  *
- * Answers. Every call but the last six returns 0, or the number of the first question below that it must answer with
+ * Answers. Every call but the last seven returns 0, or the number of the first question below that it must answer with
  * no. On a refusal nothing lent is written, figures included. On a 0 the figures are written, then the first `listed`
  * or `fitted` places of the lists; what the places after them and the work slice then hold is not said.
  *
@@ -29,10 +29,7 @@
  *
  *   cancel_find_elements                                    asks 1 2 3 4 5 6
  *   cancel_fit_elements                                     asks 1 2 3 4 5 6 7
- *   cancel_estimate_strong, cancel_run                      ask  1 2 3 4 5 6
- *   cancel_residual_check, cancel_second_carrier_evidence   ask  1 2 3 6 7
- *   cancel_subtract                                         asks 1 2 3 7
- *   cancel_classify                                         asks nothing
+ *   cancel_estimate_strong                                  asks 1 2 3 4 5 6
  */
 #ifndef CANCEL_H
 #define CANCEL_H
@@ -50,16 +47,6 @@ extern "C" {
 #define CANCEL_FIND_FIGURES 4
 #define CANCEL_FIT_FIGURES 1
 #define CANCEL_ESTIMATE_FIGURES 7
-#define CANCEL_RESIDUAL_FIGURES 5
-#define CANCEL_EVIDENCE_FIGURES 5
-#define CANCEL_CLASSIFY_FIGURES 2
-#define CANCEL_RUN_FIGURES 28
-
-/* The hypotheses, as figures give them. */
-#define CANCEL_ONE_SIGNAL 0
-#define CANCEL_TWO_SIGNAL_CW 1
-#define CANCEL_NON_CW 2
-#define CANCEL_UNRESOLVED 3
 
 /*
  * Key-down elements of the carrier at carrier_hz, an offset from the recording's centre.
@@ -86,60 +73,14 @@ uint64_t cancel_estimate_strong(const float *iq, size_t iq_len, double fs, doubl
                                 double *elements, size_t elements_len, double *fits, size_t fits_len,
                                 double *work, size_t work_len, double *figures);
 
-/*
- * What a subtraction of the estimate would leave, over the neighbour's level.
- * figures, 5: edge_over_neighbour_db, interior_over_neighbour_db, edge_blocks, interior_blocks, gap_blocks.
- * It is clean where the first is at most -7 and the second at most -10.
- */
-uint64_t cancel_residual_check(const float *iq, size_t iq_len, double fs,
-                               double carrier_hz, double carrier_step_hz,
-                               const double *elements, size_t elements_len, size_t element_count,
-                               const double *fits, size_t fits_len, size_t fit_count,
-                               double *work, size_t work_len, double *figures);
-
-/*
- * What occupies the gaps between the strong sender's key-downs.
- * figures, 5: gap_blocks, hot_fraction, offset present (0 or 1), offset_hz (0 where absent), coherence.
- */
-uint64_t cancel_second_carrier_evidence(const float *iq, size_t iq_len, double fs,
-                                        double carrier_hz, double carrier_step_hz,
-                                        const double *elements, size_t elements_len, size_t element_count,
-                                        const double *fits, size_t fits_len, size_t fit_count,
-                                        double *work, size_t work_len, double *figures);
-
-/*
- * The hypothesis that the evidence supports. present: 0 for an absent offset, anything else for a present one.
- * figures, 2: hypothesis (CANCEL_ONE_SIGNAL ..), its offset in Hz (0 but for CANCEL_TWO_SIGNAL_CW). Returns 0.
- */
-uint64_t cancel_classify(uint64_t gap_blocks, double hot_fraction, uint64_t present, double offset_hz, double coherence,
-                         double *figures);
-
-/*
- * Takes each fit's synthesis out of buf, over the fit's span, in the order of the fits.
- */
-uint64_t cancel_subtract(float *buf, size_t buf_len, double fs,
-                         double carrier_hz, double carrier_step_hz,
-                         const double *elements, size_t elements_len, size_t element_count,
-                         const double *fits, size_t fits_len, size_t fit_count);
-
-/*
- * The whole run: estimate, residual check, evidence, hypothesis; then, exactly when a keyed neighbour is uncovered by it,
- * the subtraction. A kept buffer keeps every bit.
- * figures, 28:
- *    0 samples, 1 window, 2 key-downs, 3 listed, 4 short, 5 fitted, 6 skipped, 7 airtime,
- *    8 blocks, 9 edge, 10 interior, 11 gap, 12 other,
- *   13 carrier_hz, 14 carrier_step_hz,
- *   15 edge_over_neighbour_db, 16 interior_over_neighbour_db, 17 edge_blocks, 18 interior_blocks, 19 gap_blocks,
- *   20 gap_blocks, 21 hot_fraction, 22 offset present, 23 offset_hz, 24 coherence,
- *   25 hypothesis, 26 its offset, 27 taken (1) or kept (0).
- */
-uint64_t cancel_run(float *buf, size_t buf_len, double fs, double hint_hz,
-                    double *elements, size_t elements_len, double *fits, size_t fits_len,
-                    double *work, size_t work_len, double *figures);
-
 /* The arithmetic that the calls are made of, open for tests. */
 double cancel_sin(double x);
 double cancel_cos(double x);
+/*
+ * The cosine and the sine of each angle: out receives pairs (cosine, sine), as many as there are angles and room for.
+ * Returns how many. A single cancel_sin or cancel_cos makes its table anew; here it is made once for all angles.
+ */
+size_t cancel_cos_sin(const double *angles, size_t angles_len, double *out, size_t out_len);
 double cancel_arg(double re, double im);
 double cancel_norm(double re, double im);
 double cancel_log10(double y);

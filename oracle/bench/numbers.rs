@@ -22,7 +22,17 @@ pub fn print(rounds: usize) {
         let library = over(&angles, |&x| unsafe { library::cancel_sin(x) + library::cancel_cos(x) });
         let platform = over(&angles, |&x| platform_sin(x) + platform_cos(x));
         let stood_in = over(&angles, |&x| stand_in_sin(x) + stand_in_cos(x));
-        line("sin and cos", COUNT, &least(rounds, &mut [library, platform, stood_in]));
+        line("sin and cos, a call each", COUNT, &least(rounds, &mut [library, platform, stood_in]));
+    }
+    if library::present("cancel_cos_sin") {
+        let mut out = vec![0.0; 2 * COUNT];
+        let library: Contender = Box::new(|| {
+            let done = unsafe { library::cancel_cos_sin(angles.as_ptr(), COUNT, out.as_mut_ptr(), 2 * COUNT) };
+            black_box(done);
+        });
+        let platform = over(&angles, |&x| platform_sin(x) + platform_cos(x));
+        let stood_in = over(&angles, |&x| stand_in_sin(x) + stand_in_cos(x));
+        line("sin and cos, one call for all", COUNT, &least(rounds, &mut [library, platform, stood_in]));
     }
     if library::present("cancel_norm") {
         let library = over(&parts, |&(re, im)| unsafe { library::cancel_norm(re, im) });

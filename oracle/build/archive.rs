@@ -4,7 +4,7 @@ use std::path::PathBuf;
 use std::process::Command;
 
 /// Every call of include/cancel.h.
-const CALLS: [&str; 14] = [
+const CALLS: [&str; 15] = [
     "cancel_find_elements",
     "cancel_fit_elements",
     "cancel_estimate_strong",
@@ -13,6 +13,7 @@ const CALLS: [&str; 14] = [
     "cancel_classify",
     "cancel_subtract",
     "cancel_run",
+    "cancel_cos_sin",
     "cancel_sin",
     "cancel_cos",
     "cancel_arg",

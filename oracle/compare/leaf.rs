@@ -84,7 +84,10 @@ impl Asker {
     }
 
     fn cos(&mut self, x: f64) -> Compared {
-        self.leaf("cancel_cos", || format!("{x:?}"), || unsafe { library::cancel_cos(x) }, || stand_ins::cos(x))
+        self.leaf("cancel_cos", || format!("{x:?}"), || unsafe { library::cancel_cos(x) }, || stand_ins::cos(x))?;
+        let handed = || format!("{x:?}");
+        self.leaf("cancel_cos_sin", handed, || many(x, 0), || stand_ins::cos(x))?;
+        self.leaf("cancel_cos_sin", handed, || many(x, 1), || stand_ins::sin(x))
     }
 
     fn log10(&mut self, x: f64) -> Compared {
@@ -180,4 +183,13 @@ fn narrowed(r: &mut Random) -> f64 {
             r.between(-2.0, 2.0) * 2f64.powi(shift)
         }
     }
+}
+
+/// The cosine (part 0) or the sine (part 1) by the call for many angles, the second of three; the room is for two, and one number more.
+fn many(x: f64, part: usize) -> f64 {
+    let angles = [0.5, x, 1.5];
+    let mut out = [9.0; 6];
+    let done = unsafe { library::cancel_cos_sin(angles.as_ptr(), 3, out.as_mut_ptr(), 5) };
+    assert!(done == 2 && out[4] == 9.0 && out[5] == 9.0, "cancel_cos_sin wrote past its room");
+    out[2 + part]
 }

@@ -60,6 +60,7 @@ linked! {
     ) -> u64;
     has_cancel_sin cancel_sin(x: f64) -> f64;
     has_cancel_cos cancel_cos(x: f64) -> f64;
+    has_cancel_cos_sin cancel_cos_sin(angles: *const f64, angles_len: usize, out: *mut f64, out_len: usize) -> usize;
     has_cancel_arg cancel_arg(re: f64, im: f64) -> f64;
     has_cancel_norm cancel_norm(re: f64, im: f64) -> f64;
     has_cancel_log10 cancel_log10(y: f64) -> f64;

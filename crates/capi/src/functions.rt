@@ -1,12 +1,18 @@
 // The functions of 01, part 1, that stand in for the platform's.
+use complex::Complex;
 ghost use mathlib.Core.Path.{_≡_};
+ghost use Prim.Native.Nat.{_/_, _≤_, min};
+ghost use lib.ListN.{length};
+ghost use Rattle.trig.specs.Sine.{sineTable};
+ghost use Rattle.complex.specs.Rows.{zFill};
+ghost use Rattle.capi.specs.Units.{unitOf, unitAt};
 ghost use Rattle.float.specs.Narrow.{narrowOf};
 ghost use Rattle.trig.specs.Trig.{sinOf, cosOf};
 ghost use Rattle.trig.specs.Arg.{argOf};
 ghost use Rattle.trig.specs.Log.{log10Of};
 ghost use Rattle.complex.specs.Cx.{cNew, cNorm};
 
-// The table is made at each call here, so a loop over many angles belongs behind one call.
+// The table is made at each call here: many angles are for cancel_cos_sin.
 #[no_mangle]
 pub extern "C" fn cancel_sin(x: f64) -> f64
     ensures { λ r. ⌜ r ≡ sinOf x ⌝ }
@@ -21,6 +27,47 @@ pub extern "C" fn cancel_cos(x: f64) -> f64
 {
     let sine = trig::SINE;
     trig::cos(x, &sine)
+}
+
+fn unit(x: f64, sine: &[u64; 1025]) -> Complex
+    requires { ⌜ now sine ≡ sineTable ⌝ }
+    ensures { λ r. ⌜ r ≡ unitOf x ⌝ }
+{
+    let p = trig::sin_cos(x, sine);
+    Complex {
+        re: p.cos,
+        im: p.sin,
+    }
+}
+
+// The smaller of two lengths.
+fn shorter(a: usize, b: usize) -> usize
+    ensures { λ r. ⌜ (r ≤ a) × (r ≤ b) × (r ≡ min a b) ⌝ }
+{
+    if a <= b { a } else { b }
+}
+
+fn units(angles: &[f64], out: &mut [f64], n: usize, sine: &[u64; 1025])
+    requires { ⌜ now sine ≡ sineTable ⌝ }
+    requires { ⌜ (n ≤ length (now angles)) × (n ≤ length (now out) / 2) ⌝ }
+    ensures { λ _. ⌜ now (out .exit) ≡ zFill (now (out .entry)) 0 (unitAt (now (angles .entry))) n ⌝ }
+{
+    for k in 0..n {
+        let z = unit(angles[k], sine);
+        complex::put(out, k, z);
+    }
+}
+
+// The cosine and the sine of each angle, as complex numbers of `out`, for as many angles as have room there; their number. The table is made once.
+#[no_mangle]
+pub extern "C" fn cancel_cos_sin(angles: &[f64], out: &mut [f64]) -> usize
+    ensures { λ r. ⌜ (r ≡ min (length (now (angles .entry))) (length (now (out .entry)) / 2))
+        × (now (out .exit) ≡ zFill (now (out .entry)) 0 (unitAt (now (angles .entry))) (min (length (now (angles .entry))) (length (now (out .entry)) / 2))) ⌝ }
+{
+    let sine = trig::SINE;
+    let n = shorter(angles.len(), out.len() / 2);
+    units(angles, out, n, &sine);
+    n
 }
 
 #[no_mangle]
