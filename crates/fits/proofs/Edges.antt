@@ -32,7 +32,7 @@ use Rattle.elements.specs.Crossings.{upward, downward, pending, keyDowns}
 use Rattle.elements.specs.Times.{RISE_S, crossedAt, elementOf, isLong, long}
 use Rattle.elements.specs.Found.{those, airtimeOf, listedOf, shortOf, counts, elementsOf, foundTo, elementsTo}
 use Rattle.elements.specs.Find.{EDGE_PERCENTILE, elementsFound}
-use Rattle.elements.proofs.Edges.{finds}
+use Rattle.elements.proofs.Edges.{finds, edges as ones}
 use Rattle.rank.specs.Order.{countTo}
 use Rattle.rank.specs.Percentile.{rankOf}
 use Rattle.fits.specs.Constants.{MIN_INTERIOR_S, SLOPE_BLOCK_S}
@@ -183,7 +183,7 @@ found : (elementsFound (from-100 199) (of 3000) (of 0) ≡ (keyed (fraction 1995
     × (elementsFound (from-100 159) (of 3000) (of 0) ≡ (keyed (fraction 1595 10) 157 ∷ []))
 unfolding foundTo counts elementsTo elementsOf listedOf shortOf those airtimeOf keyDowns pending upward downward long isLong elementOf crossedAt RISE_S countTo rankOf EDGE_PERCENTILE roundOf wholeBy fraction round lt le eq add sub mul div ofInt ofBits toUnsigned
 found = (
-  finds 100 199 300 _ _ (omega arith) (omega arith) (omega arith) (refl, refl) .1,
+  ones .0 .1,
   finds 100 160 300 _ _ (omega arith) (omega arith) (omega arith) (refl, refl) .1,
   finds 100 159 300 _ _ (omega arith) (omega arith) (omega arith) (refl, refl) .1,
 )

@@ -16,7 +16,8 @@ use Rattle.float.proofs.Within.{Within, within-finite, within-more, le-within, 
 use Rattle.float.proofs.Intervals.{interval-is}
 use Rattle.row.specs.Window.{Rate}
 use Rattle.elements.specs.Times.{RISE_S}
-use Rattle.fits.specs.Constants.{MIN_INTERIOR_S, rise-bits}
+use Rattle.elements.proofs.Laws.{RISE_S-bits}
+use Rattle.fits.specs.Constants.{MIN_INTERIOR_S}
 use Rattle.fits.specs.declared.interior.Interior.{Interior}
 use Rattle.fits.specs.declared.interior.Interior.the-variants.{Inside, Nothing}
 use Rattle.fits.specs.Interior.{loOf, hiOf, minLen, unfit, sized, interiorOf}
@@ -24,11 +25,11 @@ use Rattle.fits.proofs.Blocks.{fs-pos}
 
 pub lo-is : (fs start lo : Float) → lo ≡ ceilOf (start ⊕ bits 0x3f74_7ae1_47ae_147b ⊗ fs) → lo ≡ loOf fs start
 unfolding loOf
-lo-is fs start lo e = rw rise-bits e
+lo-is fs start lo e = rw (← RISE_S-bits) e
 
 pub hi-is : (fs end hi : Float) → hi ≡ floorOf (end ⊖ bits 0x3f74_7ae1_47ae_147b ⊗ fs) → hi ≡ hiOf fs end
 unfolding hiOf
-hi-is fs end hi e = rw rise-bits e
+hi-is fs end hi e = rw (← RISE_S-bits) e
 
 module _ (n : ℕ) (fs start end lo hi : Float) (e : lo ≡ loOf fs start) (f : hi ≡ hiOf fs end) where
   pub before-it : lt lo zero ≡ true → Nothing ≡ interiorOf n fs start end

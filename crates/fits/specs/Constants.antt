@@ -2,7 +2,6 @@
 use mathlib.Core.Path.{_≡_, refl}
 use lib.Ieee.{Float, round, ofBits}
 use Rattle.float.specs.Ops.{fraction, bits}
-use Rattle.elements.specs.Times.{RISE_S}
 
 -- MIN_INTERIOR_S: 10e-3
 unfoldable pub MIN_INTERIOR_S : Float
@@ -13,10 +12,6 @@ MIN_INTERIOR_S = fraction 10 1000
 unfoldable pub SLOPE_BLOCK_S : Float
 unfolding fraction
 SLOPE_BLOCK_S = fraction 5 10000
-
-pub rise-bits : RISE_S ≡ bits 0x3f74_7ae1_47ae_147b
-unfolding RISE_S fraction round ofBits
-rise-bits = refl
 
 pub min-interior-bits : MIN_INTERIOR_S ≡ bits 0x3f84_7ae1_47ae_147b
 unfolding MIN_INTERIOR_S round ofBits

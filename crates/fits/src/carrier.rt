@@ -1,16 +1,14 @@
 // The mean slope of a list of fits.
 use crate::fit::ElementFit;
+use crate::gain::TAU;
 use crate::list::fit_at;
+use elements::keying::RISE_S;
 ghost use mathlib.Core.Path.{_≡_};
 ghost use Prim.Native.Nat.{_*_, _≤_};
 ghost use lib.ListN.{length};
 ghost use Rattle.float.specs.Ops.{zero};
 ghost use Rattle.fits.specs.Lists.{fitsIn};
 ghost use Rattle.fits.specs.Carrier.{fitWeight, weightedSlope, sumOver, meanSlope};
-
-const RISE_S: f64 = 5e-3;
-
-const TAU: f64 = 6.28318530717958647692528676655900577;
 
 // Rust: `w` in `mean_slope_hz`.
 fn fit_weight(f: ElementFit, fs: f64) -> f64

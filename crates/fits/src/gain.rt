@@ -7,7 +7,7 @@ ghost use Rattle.trig.specs.Sine.{sineTable};
 ghost use Rattle.row.specs.Samples.{Iq};
 ghost use Rattle.fits.specs.Gain.{hann, tiltOf, leveledBy, gainSum, hannSum};
 
-const TAU: f64 = 6.28318530717958647692528676655900577;
+pub const TAU: f64 = 6.28318530717958647692528676655900577;
 
 // Rust: `w` in `fit_elements`.
 fn hann_weight(len: usize, j: usize, sine: &[u64; 1025]) -> f64

@@ -1,10 +1,9 @@
 // The interior of an element: the whole samples at least RISE_S inside of it.
+use elements::keying::RISE_S;
 ghost use mathlib.Core.Path.{_≡_};
 ghost use Prim.Native.Nat.{_≤_};
 ghost use Rattle.float.specs.Ops.{of};
 ghost use Rattle.fits.specs.Interior.{interiorOf, blockOf, minLen};
-
-const RISE_S: f64 = 5e-3;
 
 const MIN_INTERIOR_S: f64 = 10e-3;
 
