@@ -21,7 +21,7 @@ use Rattle.fits.specs.Constants.{MIN_INTERIOR_S}
 use Rattle.fits.specs.declared.interior.Interior.{Interior}
 use Rattle.fits.specs.declared.interior.Interior.the-variants.{Inside, Nothing}
 use Rattle.fits.specs.Interior.{loOf, hiOf, minLen, unfit, sized, interiorOf}
-use Rattle.fits.proofs.Blocks.{fs-pos}
+use Rattle.row.proofs.Steps.{rate-pos}
 
 pub lo-is : (fs start lo : Float) → lo ≡ ceilOf (start ⊕ bits 0x3f74_7ae1_47ae_147b ⊗ fs) → lo ≡ loOf fs start
 unfolding loOf
@@ -106,14 +106,14 @@ module _ (fs : Float) (r : Rate fs) where
   rise-within : Within 18 (RISE_S ⊗ fs)
   rise-within =
       mul-within binary64 RISE_S fs 0 18 (lit≤ tt) rise-small
-      (le-within 18 fs (rw (positive-abs fs (fs-pos fs r)) (le-through fs (of 192000) (fin false 1 (pos 18)) (r .high) rate-small)))
+      (le-within 18 fs (rw (positive-abs fs (rate-pos fs r)) (le-through fs (of 192000) (fin false 1 (pos 18)) (r .high) rate-small)))
 
   -- from 20 samples at 2,000 to 1,920 at 192,000
   least-low : 20 ≤ minLen fs
-  least-low = rw (least-ends .0) at (least-mono (of 2000) fs (ends-pos .0) (fs-pos fs r) (r .low))
+  least-low = rw (least-ends .0) at (least-mono (of 2000) fs (ends-pos .0) (rate-pos fs r) (r .low))
 
   least-high : minLen fs ≤ 1920
-  least-high = rw (least-ends .1) at (least-mono fs (of 192000) (fs-pos fs r) (ends-pos .1) (r .high))
+  least-high = rw (least-ends .1) at (least-mono fs (of 192000) (rate-pos fs r) (ends-pos .1) (r .high))
 
   -- the tests have failed
   module _ (n : ℕ) (few : n ≤ 1048576) (start end : Float) (s : T (sized start)) (t : T (sized end)) where
