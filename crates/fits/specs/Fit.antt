@@ -18,7 +18,7 @@ use Rattle.fits.specs.Slope.{slopeOf}
 use Rattle.fits.specs.Gain.{refSample, gainSum, hannSum}
 
 -- The fit over the samples from i0 up to, not including, i1. A fit holds its element, gain, slope and reference sample.
--- The gain is acc / wacc; an element whose weights do not add up to more than 0 is skipped.
+-- The gain is acc / wacc; an element whose weights add up to 0 or less is skipped.
 unfoldable pub fitInside : List Float → Float → ℕ → KeyedElement → ℕ → ℕ → Fit
 fitInside iq cyc block e i0 i1 =
     let len = i1 - i0 in

@@ -20,7 +20,7 @@ refSample i0 i1 = of (i0 + i1 - 1) ⊘ two
 unfoldable pub hann : ℕ → ℕ → Float
 hann len j = half ⊖ half ⊗ cosOf (TAU ⊗ (of j ⊕ half) ⊘ of len)
 
--- `tilt`: the angle that the slope has turned sample k back by, since the reference sample
+-- `tilt`: the angle that takes the slope out of sample k, none at the reference sample
 unfoldable pub tiltOf : Float → Float → ℕ → Float
 tiltOf slope ref k = remEuclidOf (neg slope ⊗ (of k ⊖ ref)) TAU
 
