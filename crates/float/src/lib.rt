@@ -14,5 +14,6 @@ pub use single::narrow;
 pub use whole::ceil;
 pub use whole::exact;
 pub use whole::floor;
+pub use whole::from_whole;
 pub use whole::round;
 pub use whole::to_whole;

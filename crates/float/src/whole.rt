@@ -116,3 +116,10 @@ pub fn exact(n: usize) -> f64
     let k = n as i64;
     k as f64
 }
+
+// Rust: n as f64 of any whole number, to the nearest f64. `exact` is quicker where n is known to be small.
+pub fn from_whole(n: usize) -> f64
+    ensures { λ r. ⌜ r ≡ of n ⌝ }
+{
+    std::num::nearest_u64_to_f64(n as u64)
+}
