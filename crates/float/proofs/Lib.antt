@@ -16,6 +16,8 @@
 -- Remainders  `rem-small`, and what `rem_one` does in place of `%`; `rem-one-within`
 -- Patterns, Narrowing     bit patterns, and the f32 nearest to an f64
 -- Squares, Roots, Value, Meaning     the square root; `sqrt-nearest`: no other value is nearer to it; `nearest-unique`
+-- Ties, Rounding          what `round` means, and what is defined by it: no other value is nearer, and a tie goes to the even one: `round-rounded`, `round-nearest`, `round-infinite`, `rounded-unique`; `narrow-rounded`, `of-rounded`, `fraction-rounded`, `add-rounded`, `sub-rounded`, `mul-rounded`, `div-rounded`; `root-nearest`; `counted`, `last-bit`
+-- Unrounded   floor, ceil, round lose nothing to the format: `floor-exact`, `ceil-exact`, `nearest-exact`
 pub mod Digits
 pub mod Exactly
 pub mod Compared
@@ -38,4 +40,7 @@ pub mod Value
 pub mod Meaning
 pub mod Bounds
 pub mod Amounts
+pub mod Unrounded
+pub mod Ties
+pub mod Rounding
 mod Examples

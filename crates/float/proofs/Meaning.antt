@@ -1,7 +1,7 @@
 -- What `sqrtOf` comes to, in either format, at a value above zero: it is a value of the format, and no other is as near to the root. Assumes nothing.
 use mathlib.Core.Path.{_≡_, sym, ap, _∙_, subst}
 use mathlib.Core.Logic.{_⊎_, inl, inr}
-use mathlib.Core.Bool.{false}
+use mathlib.Core.Bool.{Bool, false}
 use Prim.Native.Nat.{ℕ, zero, suc, _+_, _-_, _*_, _/_, _%_, _^_, _≤_, _<_}
 use native.Mathlib.Nat.{mul-right-comm, le-refl, le-antisymm, le-trans, le-of-lt, le-of-eq, le-of-suc-le-suc, lt-of-not-le, lt-irrefl, lt-of-lt-of-le, lt-of-le-of-lt, eq-or-lt-of-le, zero-mul, one-mul, mul-comm, mul-assoc, mul-mul-mul-comm, mul-le-mul, mul-le-mul-right, mul-lt-mul-of-pos-right, lt-of-mul-lt-mul-right, eq-of-mul-eq-mul-right, mul-pos, zero-lt-suc, add-mul, pow-suc}
 use native.Mathlib.Decide.{decLe}
@@ -22,16 +22,16 @@ use Rattle.float.proofs.Value.{sqrt-of-value}
 
 -- ---- a value of the format is a number of its digits, and zeros
 
-record Digits (p a : ℕ) : Type 0 where
-  m : ℕ
-  j : ℕ
-  is : a ≡ m * 2 ^ j
-  few : m < 2 ^ p
+pub record Digits (p a : ℕ) : Type 0 where
+  pub m : ℕ
+  pub j : ℕ
+  pub is : a ≡ m * 2 ^ j
+  pub few : m < 2 ^ p
 
-digits : (f : Format) (y : Float) (a : ℕ) → T (fits f y) → HasValue y false a (2 ^ low f) → Digits (prec f) a
-digits f nan a h v = absurd v
-digits f (inf s) a h v = absurd v
-digits f (fin s m e) a h v =
+pub digits : (f : Format) (y : Float) (t : Bool) (a : ℕ) → T (fits f y) → HasValue y t a (2 ^ low f) → Digits (prec f) a
+digits f nan t a h v = absurd v
+digits f (inf s) t a h v = absurd v
+digits f (fin s m e) t a h v =
     let w = fits-parts f s m e h in
     let x = exponent f m e (w .1) in
     record { m = m; j = x .0; is = eq-of-mul-eq-mul-right (down e) (down-pos e) a (m * 2 ^ x .0) (sym (v .1) ∙ x .1); few = w .0 }
@@ -103,7 +103,7 @@ near-at-most n b c h k = le-of-suc-le-suc (subst (λ (x : ℕ). c < x) (plus b) 
 
 -- ---- a value of the format that is no less than 2 ^ (p - 1) times 2 ^ k is a multiple of 2 ^ k
 
-multiple : (p k a : ℕ) → 0 < p → Digits p a → 2 ^ (p - 1) * 2 ^ k ≤ a → (g : ℕ) × (a ≡ g * 2 ^ k)
+pub multiple : (p k a : ℕ) → 0 < p → Digits p a → 2 ^ (p - 1) * 2 ^ k ≤ a → (g : ℕ) × (a ≡ g * 2 ^ k)
 multiple p k a h d l = go (decLe k (d .j))
   where
     go : Dec (k ≤ d .j) → (g : ℕ) × (a ≡ g * 2 ^ k)
@@ -222,7 +222,7 @@ sqrt-nearest f x a F A v =
     let p = prec f in
     let l = low f in
     let p-pos : 0 < p = lt-of-lt-of-le (lit≤ tt) (two f) in
-    let d = digits f x a F v in
+    let d = digits f x false a F v in
     let m-pos : 0 < d .m = some (d .m) (2 ^ d .j) (subst (λ (y : ℕ). 0 < y) (d .is) A) in
     let w = full p (d .m) m-pos (d .few) in
     let M = d .m * 2 ^ w .s in
@@ -261,8 +261,8 @@ sqrt-nearest f x a F A v =
       value = subst (λ (y : Float). HasValue y false (c * 2 ^ k) (2 ^ l)) (sym is) (units-val f false c k in-range);
       nearest = subst (λ (y : ℕ). Nearest f y (c * 2 ^ k)) (sym n-is)
           (record {
-            above = λ y b G u g. above-half p k c P p-pos lo (ex .1) b (digits f y b G u) g;
-            below = λ y b G u g. below-half p k c P p-pos lo (ex .1) b (digits f y b G u) g;
+            above = λ y b G u g. above-half p k c P p-pos lo (ex .1) b (digits f y false b G u) g;
+            below = λ y b G u g. below-half p k c P p-pos lo (ex .1) b (digits f y false b G u) g;
           });
     }
   where
