@@ -4,8 +4,10 @@ use mathlib.Core.Bool.{Bool}
 use mathlib.Core.List.{List}
 use lib.Ieee.{Float}
 
--- A is the type of a call's values. `done` says whether it was accepted; the number is 0 then, and else that of the first no. `lists` is what each
--- lent list holds afterwards. The work slice is as it was after a refusal; after an accepted call it is free, which is written as the empty list.
+-- A is the type of a call's values. `done` says whether it was accepted; the number is 0 then, and else that of the
+-- first no. `lists` is what each
+-- lent list holds afterwards. The work slice is as it was after a refusal; after an accepted call it is free, which
+-- is written as the empty list.
 pub record Outcome (A : Type 0) : Type 0 where
   pub done : Bool
   pub number : ℕ

@@ -24,7 +24,8 @@ abbrev pub estimateOutcome : EstimateAnswer → List Float → List Float → Li
 estimateOutcome (Refused n) elements fits work = outcome false n noEstimate (elements ∷ fits ∷ []) work
 estimateOutcome (Done e) elements fits work = outcome true 0 e (elements ∷ fits ∷ []) []
 
--- The first no is the result, and nothing is written; else the estimate, and in the lists the elements and fits of the second pass, over what the first
+-- The first no is the result, and nothing is written; else the estimate, and in the lists the elements and fits of
+-- the second pass, over what the first
 -- pass stored there.
 unfoldable pub estimateRule : List Float → Float → Float → List Float → List Float → List Float → Outcome Estimate
 estimateRule iq fs hint elements fits work =

@@ -17,7 +17,8 @@ abbrev pub findOutcome : FindAnswer → List Float → List Float → Outcome Fo
 findOutcome (Refused n) elements work = outcome false n none (elements ∷ []) work
 findOutcome (Done f) elements work = outcome true 0 f (elements ∷ []) []
 
--- The first no is the result, and nothing is written; else the counts and the airtime, and the listed elements in the list.
+-- The first no is the result, and nothing is written; else the counts and the airtime, and the listed elements in the
+-- list.
 unfoldable pub findRule : List Float → Float → Float → List Float → List Float → Outcome Found
 findRule iq fs hz elements work =
     let first = firstNo (findQuestions iq fs hz (length elements) (length work)) in

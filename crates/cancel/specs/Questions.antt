@@ -1,4 +1,5 @@
--- Questions at the door (01): each is one Bool, a call's order is one list of them with their numbers, and the first no is the result, by its number. Definitions only.
+-- Questions at the door (01): each is one Bool, a call's order is one list of them with their numbers, and the first
+-- no is the result, by its number. Definitions only.
 use Prim.Native.Nat.{ℕ, _*_, _/_, _%_}
 use mathlib.Core.Bool.{Bool, true, false, _&&_, cond}
 use mathlib.Core.List.{List, [], _∷_, _++_}

@@ -58,7 +58,8 @@ fn units(angles: &[f64], out: &mut [f64], n: usize, sine: &[u64; 1025])
     }
 }
 
-// The cosine and the sine of each angle, as complex numbers of `out`, for as many angles as have room there; their number. The table is made once.
+// The cosine and the sine of each angle, as complex numbers of `out`, for as many angles as have room there; their
+// number. The table is made once.
 #[no_mangle]
 pub extern "C" fn cancel_cos_sin(angles: &[f64], out: &mut [f64]) -> usize
     ensures { λ r. ⌜ (r ≡ min (length (now (angles .entry))) (length (now (out .entry)) / 2))

@@ -1,4 +1,5 @@
--- How large a complex result can be: `CBounded k a z` says that both parts of z are finite and of size at most a * 2 ^ k. Each operation has its law, and so have sums of a row. The norm is
+-- How large a complex result can be: `CBounded k a z` says that both parts of z are finite and of size at most a * 2
+-- ^ k. Each operation has its law, and so have sums of a row. The norm is
 -- finite and not negative (`norm-amount`). Assumes nothing.
 use mathlib.Core.Path.{_≡_, subst, sym}
 use Prim.Native.Nat.{ℕ, zero, suc, _+_, _*_, _^_, _≤_, _<_, zero-le}

@@ -1,4 +1,5 @@
--- Complex numbers of two f64 (01, part 1): each operation is made of single rounded operations, in the order written. Definitions only.
+-- Complex numbers of two f64 (01, part 1): each operation is made of single rounded operations, in the order written.
+-- Definitions only.
 use lib.Ieee.{Float, neg, binary64}
 use Rattle.complex.specs.declared.value.Complex.{Complex}
 use Rattle.float.specs.Ops.{_⊕_, _⊖_, _⊗_, _⊘_, zero}

@@ -31,7 +31,8 @@ zFill l at f (suc n) = zSet (zFill l at f n) (at + n) (f n)
 
 -- ---- laws
 
--- A loop that sums the numbers from a, at k: before it, a turn of it, and after it. The premises are what the code's facts say.
+-- A loop that sums the numbers from a, at k: before it, a turn of it, and after it. The premises are what the code's
+-- facts say.
 module _ (f : ℕ → Complex) (a : ℕ) where
   pub cSum-none : cZero ≡ cSum f a (a - a)
   unfolding cSum

@@ -1,4 +1,5 @@
-// A complex number of two f64: a value with its own operations, each made of single rounded operations in the order of num_complex.
+// A complex number of two f64: a value with its own operations, each made of single rounded operations in the order
+// of num_complex.
 ghost use mathlib.Core.Path.{_≡_};
 ghost use Rattle.trig.specs.Sine.{sineTable};
 ghost use Rattle.complex.specs.Cx.{cNew, cZero, cAdd, cSub, cMul, cConj, cNormSqr, cNorm, cArg, cDiv, cPolar};

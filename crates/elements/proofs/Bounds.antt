@@ -1,5 +1,7 @@
--- The numbers of every listed element are finite: no time is a NaN or an infinity, as long as the amplitudes and the threshold are amounts (finite, with the sign plus).
--- `crossed-bounded` is of one crossing, `elements-bounded` of all that a row has. Of a recording of finite f32, at any carrier: `threshold-amount`, `recorded-is`, `found-bounded`. Assumes nothing.
+-- The numbers of every listed element are finite: no time is a NaN or an infinity, as long as the amplitudes and the
+-- threshold are amounts (finite, with the sign plus).
+-- `crossed-bounded` is of one crossing, `elements-bounded` of all that a row has. Of a recording of finite f32, at
+-- any carrier: `threshold-amount`, `recorded-is`, `found-bounded`. Assumes nothing.
 use mathlib.Core.Path.{_≡_, refl, sym, ap, _∙_, subst}
 use mathlib.Core.Logic.{_⊎_, inl, inr, ⊎-elim, _↔_}
 use mathlib.Core.Bool.{Bool, true, false, cond}
@@ -139,7 +141,8 @@ module _ (iq : List Float) (fs carrier : Float) (s : Singles iq) (q : Iq iq) whe
   last-amount : (thr : Float) → thresholdOf iq fs carrier ≡ Value thr → (i : ℕ) → i ≤ rowLength iq fs - 1 → Amount (rowOf iq fs carrier i)
   last-amount thr t i h = let some : 0 < rowLength iq fs = some-row thr t in row-amount iq fs carrier i s q (omega arith)
 
-  -- A pair of positions is a key-down of the recording exactly if it is an upward crossing and the next downward one: the row has no NaN.
+  -- A pair of positions is a key-down of the recording exactly if it is an upward crossing and the next downward one:
+  -- the row has no NaN.
   pub recorded-is : (thr : Float) → thresholdOf iq fs carrier ≡ Value thr
       → (k : KeyDown) → List·Memᴰ k (keyDownsOf iq fs carrier) ↔ IsKeyDown (rowOf iq fs carrier) thr (rowLength iq fs - 1) k
   unfolding keyDownsOf

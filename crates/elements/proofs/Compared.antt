@@ -1,4 +1,5 @@
--- An amplitude lies below a threshold or reaches it: never both, and one of the two where neither is a NaN. Assumes nothing.
+-- An amplitude lies below a threshold or reaches it: never both, and one of the two where neither is a NaN. Assumes
+-- nothing.
 use Prim.Native.Nat.{ℕ, zero, suc, _+_, _*_, _<_}
 use native.Mathlib.Nat.{eq-or-lt-of-le}
 use native.Mathlib.Omega.{arith}

@@ -1,4 +1,5 @@
--- Which pairs `keyDowns` has: each upward crossing with the next downward one, each once, in order (01, part 3). For every row and threshold; where a row must have no NaN, the theorem says so. Assumes nothing.
+-- Which pairs `keyDowns` has: each upward crossing with the next downward one, each once, in order (01, part 3). For
+-- every row and threshold; where a row must have no NaN, the theorem says so. Assumes nothing.
 use Prim.Native.Nat.{ℕ, zero, suc, _+_, _-_, _*_, _/_, _≤_, _<_}
 use native.Mathlib.Nat.{eq-or-lt-of-le, le-of-suc-le-suc, not-suc-le-zero}
 use native.Mathlib.Omega.{arith}
@@ -139,7 +140,8 @@ module _ (row : ℕ → Float) (thr : Float) where
       (listed-all j k (record { rises = s .rises; falls = s .falls; later = s .later; within = le-of-suc-le-suc l; next = s .next }) alone))
       (eq-or-lt-of-le (s .within))
 
-  -- ---- where no amplitude is a NaN, the row stays at the threshold or above it until the next downward crossing: no second upward crossing comes before that
+  -- ---- where no amplitude is a NaN, the row stays at the threshold or above it until the next downward crossing: no
+  -- second upward crossing comes before that
   up-reaches : (i : ℕ) → upward row thr i ≡ true → le thr (row i) ≡ true
   unfolding upward
   up-reaches i h = and-right (lt (row (i - 1)) thr) (le thr (row i)) h
@@ -176,7 +178,8 @@ module _ (row : ℕ → Float) (thr : Float) where
     pub key-down-is : (k : KeyDown) → List·Memᴰ k (keyDowns row thr last) ↔ IsKeyDown row thr last k
     key-down-is k = (λ m. members last k m .0, λ s. listed-all last k s (alone k s))
 
-  -- ---- the order of the list: each key-down ends before the next one begins, so ups rise strictly and no pair is there twice
+  -- ---- the order of the list: each key-down ends before the next one begins, so ups rise strictly and no pair is
+  -- there twice
   -- a key-down of the list ends before the pending upward crossing
   before-pending : (j u : ℕ) (k : KeyDown) → pending row thr j ≡ At u → List·Memᴰ k (keyDowns row thr j) → k .down < u
   before-pending j u k e m =

@@ -1,4 +1,5 @@
--- The walk along a row, position by position: what is pending and counted after j positions, how a turn of the loop moves it on, and how small the counts are. Assumes nothing.
+-- The walk along a row, position by position: what is pending and counted after j positions, how a turn of the loop
+-- moves it on, and how small the counts are. Assumes nothing.
 use Prim.Native.Nat.{ℕ, zero, suc, _+_, _-_, _*_, _≤_}
 use native.Mathlib.Nat.{add-zero, mul-le-mul}
 use native.Mathlib.Omega.{arith}

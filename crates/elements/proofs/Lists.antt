@@ -1,4 +1,5 @@
--- Lists of key-downs and of elements: what each count and each store is over one list put behind another. Assumes nothing.
+-- Lists of key-downs and of elements: what each count and each store is over one list put behind another. Assumes
+-- nothing.
 use Prim.Native.Nat.{ℕ, suc, _+_, _-_, _*_, _≤_}
 use native.Mathlib.Nat.{add-mul}
 use native.Mathlib.Omega.{arith}

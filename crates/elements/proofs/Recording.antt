@@ -1,4 +1,5 @@
--- What `find_elements` answers of a recording, in the terms of document 01, part 3. For every recording, rate and carrier. Assumes nothing.
+-- What `find_elements` answers of a recording, in the terms of document 01, part 3. For every recording, rate and
+-- carrier. Assumes nothing.
 use Prim.Native.Nat.{ℕ, _+_, _-_, _*_, _/_, _≤_}
 use native.Mathlib.Omega.{arith}
 use mathlib.Core.Path.{_≡_, refl, sym}

@@ -1,4 +1,5 @@
--- Two rows that agree at every position up to `last` have the same key-downs, counts and elements there. Assumes nothing.
+-- Two rows that agree at every position up to `last` have the same key-downs, counts and elements there. Assumes
+-- nothing.
 use Prim.Native.Nat.{ℕ, zero, suc, _-_, _≤_}
 use native.Mathlib.Omega.{arith}
 use mathlib.Core.Path.{_≡_, refl, ap}

@@ -1,4 +1,5 @@
--- At carrier 0 nothing is turned: the rotor is 1 at every sample. A recording of whole numbers 0 and 1 keeps them through `derotated`, and at a step of 1 through `block_means` and the running sum. Assumes nothing.
+-- At carrier 0 nothing is turned: the rotor is 1 at every sample. A recording of whole numbers 0 and 1 keeps them
+-- through `derotated`, and at a step of 1 through `block_means` and the running sum. Assumes nothing.
 use Prim.Native.Nat.{ℕ, zero, suc, _+_, _-_, _*_, _^_, _≤_, _<_}
 use native.Mathlib.Nat.{zero-mul}
 use native.Mathlib.Omega.{arith}
@@ -108,7 +109,8 @@ nought-real : cZero ≡ real 0
 unfolding ofInt ofBits
 nought-real = refl
 
--- ---- a recording of n samples, b k at k with b k ≤ 1, of which T k are ones below k: at a step of 1 its row is the number of ones in each eight, over 8
+-- ---- a recording of n samples, b k at k with b k ≤ 1, of which T k are ones below k: at a step of 1 its row is the
+-- number of ones in each eight, over 8
 module _ (iq : List Float) (n : ℕ) (b T : ℕ → ℕ) (few : n ≤ 1048576) (bit : (k : ℕ) → b k ≤ 1) (start : T 0 ≡ 0) (next : (k : ℕ) → T (suc k) ≡ T k + b k)
     (is : (k : ℕ) → k < n → zAt iq k ≡ real (b k)) where
   pub derot-real : (k : ℕ) → k < n → derot iq (of 0) k ≡ real (b k)

@@ -23,7 +23,8 @@ pub record KeyDown : Type 0 where
 abbrev pub keyDown : ℕ → ℕ → KeyDown
 keyDown u d = record { up = u; down = d }
 
--- Among the positions 1 to j: the upward crossing that no downward one has followed, if there is one (the Rust's `rising`).
+-- Among the positions 1 to j: the upward crossing that no downward one has followed, if there is one (the Rust's
+-- `rising`).
 unfoldable pub pending : (ℕ → Float) → Float → ℕ → Rising
 unfolding upward downward
 pending row thr zero = Nothing
@@ -45,7 +46,8 @@ keyDowns row thr (suc j) =
     let here = ended (pending row thr j) (suc j) in
     keyDowns row thr j ++ cond (downward row thr (suc j)) here []
 
--- The same as a property of a pair of positions up to `last`: `key-down-is` of the proofs says that `keyDowns` has the pairs with it and no others.
+-- The same as a property of a pair of positions up to `last`: `key-down-is` of the proofs says that `keyDowns` has
+-- the pairs with it and no others.
 pub record IsKeyDown (row : ℕ → Float) (thr : Float) (last : ℕ) (k : KeyDown) : Type 0 where
   pub rises : upward row thr (k .up) ≡ true
   pub falls : downward row thr (k .down) ≡ true

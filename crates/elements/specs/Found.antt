@@ -1,4 +1,5 @@
--- What a row of amplitudes has: its key-downs, listed and short, as counts, the airtime, and the elements in the lent list (01, part 3). Definitions only.
+-- What a row of amplitudes has: its key-downs, listed and short, as counts, the airtime, and the elements in the lent
+-- list (01, part 3). Definitions only.
 use Prim.Native.Nat.{ℕ, suc, _+_, _-_, _*_}
 use mathlib.Core.Bool.{Bool, not, cond}
 use mathlib.Core.List.{List, [], _∷_, map}

@@ -1,4 +1,5 @@
--- The times of crossings and the elements that key-downs are (01, part 3: "Times follow `find_elements`"). Definitions only.
+-- The times of crossings and the elements that key-downs are (01, part 3: "Times follow `find_elements`").
+-- Definitions only.
 use Prim.Native.Nat.{ℕ, _-_, _*_}
 use mathlib.Core.Bool.{Bool}
 use lib.Ieee.{Float, le}

@@ -16,7 +16,8 @@ ghost use Rattle.elements.specs.Find.{foundOf, elementsFound};
 
 const EDGE_PERCENTILE: f64 = 0.98;
 
-// Rust: find_elements, which answers the elements as a list of its own and counts nothing. The row lies in the work slice, behind the block means.
+// Rust: find_elements, which answers the elements as a list of its own and counts nothing. The row lies in the work
+// slice, behind the block means.
 pub fn find_elements(
     iq: &[f32],
     fs: f64,

@@ -206,7 +206,8 @@ outside-60 : fitOf (from-100 159) (of 3000) (of 0 ⊘ of 3000) (keyed (fraction 
 unfolding fitOf fitWithin
 outside-60 = let size : samples (from-100 159) ≡ 300 = rw (ones-length 100 159 300) in rw (size, interiors .2)
 
--- Ones at 100..199 of 300: gain (1, 0), slope 0, reference 149. Of 300, ones from 100: 61 of them are fitted, 60 skipped.
+-- Ones at 100..199 of 300: gain (1, 0), slope 0, reference 149. Of 300, ones from 100: 61 of them are fitted, 60
+-- skipped.
 pub edges : (fitsFound (from-100 199) (of 3000) (of 0) ≡ (unitFit (keyed (fraction 1995 10) 197) (of 149) ∷ []))
     × (fitsFound (from-100 160) (of 3000) (of 0) ≡ (unitFit (keyed (fraction 1605 10) 158) (fraction 259 2) ∷ []))
     × (fitsFound (from-100 159) (of 3000) (of 0) ≡ [])

@@ -1,5 +1,7 @@
--- Which elements get a fit. `fits-are`: the fits' elements are elements of the list, in its order, each at most once. `fit-is`: each fit is the fit of its element.
--- `fitted-few`: fitted is at most listed. `fitted-or-skipped`: fitted and skipped together are the listed ones, so skipped = listed − fitted.
+-- Which elements get a fit. `fits-are`: the fits' elements are elements of the list, in its order, each at most once.
+-- `fit-is`: each fit is the fit of its element.
+-- `fitted-few`: fitted is at most listed. `fitted-or-skipped`: fitted and skipped together are the listed ones, so
+-- skipped = listed − fitted.
 use Prim.Native.Nat.{ℕ, _+_, _-_, _≤_}
 use native.Mathlib.Omega.{arith}
 use mathlib.Core.Path.{_≡_, refl, sym, ap, _∙_}

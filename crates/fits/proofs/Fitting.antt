@@ -46,7 +46,8 @@ module _ (iq : List Float) (fs cyc : Float) (e : KeyedElement) where
   unfolding fitOf fitWithin
   fit-found i0 i1 block r h b p = rw (← h, ← b, p)
 
--- What the fit over an interior asks: it is not empty, it lies within the recording, and its points have room, since a block is no shorter than the
+-- What the fit over an interior asks: it is not empty, it lies within the recording, and its points have room, since
+-- a block is no shorter than the
 -- step, and so they are no more than the blocks of the edge finder.
 pub interior-room : (iq : List Float) (fs : Float) (e : KeyedElement) (i0 i1 block room : ℕ) → Iq iq → Rate fs → Timed e
     → Inside i0 i1 ≡ interiorOf (samples iq) fs (e .start) (e .end) → block ≡ blockOf fs → 4 * stepBlocks iq fs ≤ room

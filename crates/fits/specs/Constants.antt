@@ -1,4 +1,5 @@
--- The constants of cancel.rs that the fits go by: the f64 nearest to what the Rust writes, and the bit pattern of each, computed. RISE_S stands with the elements.
+-- The constants of cancel.rs that the fits go by: the f64 nearest to what the Rust writes, and the bit pattern of
+-- each, computed. RISE_S stands with the elements.
 use mathlib.Core.Path.{_≡_, refl}
 use lib.Ieee.{Float, round, ofBits}
 use Rattle.float.specs.Ops.{fraction, bits}

@@ -1,4 +1,5 @@
--- The gain of an interior (01, part 4: `fit_elements`): the Hann-weighted mean of the derotated samples with the slope removed. Definitions only.
+-- The gain of an interior (01, part 4: `fit_elements`): the Hann-weighted mean of the derotated samples with the
+-- slope removed. Definitions only.
 use Prim.Native.Nat.{ℕ, _+_, _-_}
 use mathlib.Core.List.{List}
 use lib.Ieee.{Float, neg}

@@ -1,4 +1,5 @@
--- The interior of an element in whole samples, and the block of the slope fit (01, part 4: `fit_elements`). Definitions only.
+-- The interior of an element in whole samples, and the block of the slope fit (01, part 4: `fit_elements`).
+-- Definitions only.
 use Prim.Native.Nat.{ℕ}
 use mathlib.Core.Bool.{Bool, false, _||_, cond}
 use lib.IntN.{pos}

@@ -1,4 +1,5 @@
--- The weighted least squares of `fit_elements` (01, part 4): points with a time, a phase and a weight, and the slope of the line through them. Definitions only.
+-- The weighted least squares of `fit_elements` (01, part 4): points with a time, a phase and a weight, and the slope
+-- of the line through them. Definitions only.
 use Prim.Native.Nat.{ℕ, _+_, _*_}
 use mathlib.Core.Bool.{cond}
 use mathlib.Core.List.{List}

@@ -1,4 +1,5 @@
--- Elements and fits in lent lists (01, "Where cancel.rs leans on Rust"): four numbers an element and eight a fit; a place is one record. Definitions only.
+-- Elements and fits in lent lists (01, "Where cancel.rs leans on Rust"): four numbers an element and eight a fit; a
+-- place is one record. Definitions only.
 use Prim.Native.Nat.{ℕ, zero, suc, _+_, _*_, _<_}
 use mathlib.Core.List.{List, [], _∷_, _++_}
 use lib.ListN.{getD, set}
@@ -22,7 +23,8 @@ elementsIn l n = firsts (elementAt l) n
 pub record AllTimed (l : List Float) (n : ℕ) : Type 0 where
   pub each : (k : ℕ) → k < n → Timed (elementAt l k)
 
--- The fit at place p: the four numbers of its element, the gain's two, slope and reference, from number 8 p on. So its element stands where a list
+-- The fit at place p: the four numbers of its element, the gain's two, slope and reference, from number 8 p on. So
+-- its element stands where a list
 -- of elements has place 2 p, and its gain where a row of complex numbers has number 4 p + 2.
 abbrev pub fitAt : List Float → ℕ → ElementFit
 fitAt l p =

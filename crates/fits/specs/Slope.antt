@@ -1,4 +1,5 @@
--- The phase slope of an interior (01, part 4: `fit_elements`): its block means, their unwrapped phase, and the line through the points. Definitions only.
+-- The phase slope of an interior (01, part 4: `fit_elements`): its block means, their unwrapped phase, and the line
+-- through the points. Definitions only.
 use Prim.Native.Nat.{ℕ, zero, suc, _+_, _*_, _/_}
 use mathlib.Core.List.{List}
 use lib.Ieee.{Float}

@@ -9,7 +9,8 @@ const MIN_INTERIOR_S: f64 = 10e-3;
 
 const SLOPE_BLOCK_S: f64 = 0.5e-3;
 
-// From the first sample up to, not including, `past`; or nothing, where the element is too short or leaves the recording.
+// From the first sample up to, not including, `past`; or nothing, where the element is too short or leaves the
+// recording.
 pub enum Interior {
     Inside { first: usize, past: usize },
     Nothing,

@@ -1,5 +1,6 @@
 // The weighted least squares of `fit_elements`: the slope of the line through points of phase over time.
-// Point b is the pair (phase, weight) at place b of the work slice, where a row of complex numbers has its number b; its time is computed.
+// Point b is the pair (phase, weight) at place b of the work slice, where a row of complex numbers has its number b;
+// its time is computed.
 ghost use mathlib.Core.Path.{_≡_};
 ghost use Prim.Native.Nat.{_+_, _*_, _≤_, _<_};
 ghost use lib.ListN.{length};

@@ -45,7 +45,8 @@ fn keep(fits: &mut [f64], p: usize, fit: Fit) -> usize
     p + 1
 }
 
-// Rust: fit_elements. The elements are the first `count` of a list, the fits go into another, and the answer is their number.
+// Rust: fit_elements. The elements are the first `count` of a list, the fits go into another, and the answer is their
+// number.
 pub fn fit_elements(
     iq: &[f32],
     fs: f64,

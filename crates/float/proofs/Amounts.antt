@@ -1,5 +1,7 @@
--- Amounts: f64 values that are finite and have the sign plus, so neither a NaN nor an infinity, nothing below zero and no -0.0. The root of an amount is one, and so is its half,
--- and so is a sum of two squares that does not overflow. Where a line from a0 to a1 crosses a threshold, as a share of the way, lies between 0 and 1 (`share-bounded`):
+-- Amounts: f64 values that are finite and have the sign plus, so neither a NaN nor an infinity, nothing below zero
+-- and no -0.0. The root of an amount is one, and so is its half,
+-- and so is a sum of two squares that does not overflow. Where a line from a0 to a1 crosses a threshold, as a share
+-- of the way, lies between 0 and 1 (`share-bounded`):
 -- the difference of two different f64 is never rounded to zero. Assumes nothing.
 use mathlib.Core.Path.{_≡_, refl, sym, ap, _∙_, subst}
 use mathlib.Core.Logic.{_⊎_, ⊎-elim}

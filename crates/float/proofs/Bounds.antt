@@ -1,5 +1,7 @@
--- How large a result can be: `Bounded k a x` says that x is finite and of size at most a * 2 ^ k. As long as a has no more digits than an f64 keeps, a * 2 ^ k is itself an f64,
--- so a result that is exactly within that bound is within it when rounded (`round-bounded`). Each operation has its law. Assumes nothing.
+-- How large a result can be: `Bounded k a x` says that x is finite and of size at most a * 2 ^ k. As long as a has no
+-- more digits than an f64 keeps, a * 2 ^ k is itself an f64,
+-- so a result that is exactly within that bound is within it when rounded (`round-bounded`). Each operation has its
+-- law. Assumes nothing.
 use mathlib.Core.Path.{_≡_, refl, sym, ap, _∙_, subst}
 use mathlib.Core.Logic.{_⊎_, inl, inr}
 use Prim.Native.Nat.{ℕ, zero, suc, _+_, _-_, _*_, _/_, _^_, _≤_, _<_, zero-le}

@@ -1,4 +1,6 @@
--- `(x + 2 ^ 52) - 2 ^ 52`, for x from 0 up to 2 ^ 52, is a whole number: x's whole part or one more (`rounded-whole`), and what x is over or under it is exact (`bounce-is`). It rests on `round-at-one`: from 2 ^ 52 up to 2 ^ 53 binary64 rounds to whole numbers.
+-- `(x + 2 ^ 52) - 2 ^ 52`, for x from 0 up to 2 ^ 52, is a whole number: x's whole part or one more
+-- (`rounded-whole`), and what x is over or under it is exact (`bounce-is`). It rests on `round-at-one`: from 2 ^ 52
+-- up to 2 ^ 53 binary64 rounds to whole numbers.
 -- Assumes nothing.
 use mathlib.Core.Path.{_≡_, refl, sym, ap, _∙_, subst}
 use mathlib.Core.Logic.{_⊎_, inl, inr}
@@ -134,7 +136,8 @@ rounded-whole m e h =
     at-most : (x q B : ℕ) → x ≡ q + 2 ^ 52 → B ≤ suc x → B - 2 ^ 52 ≤ suc q
     at-most x q B e h = omega arith
 
--- ---- that whole number, and what x is over or under it: with q and r / c the whole part and the fraction of x, it is q and x is r / c over it, or it is q + 1, r / c is a half at least, and x is 1 - r / c under it
+-- ---- that whole number, and what x is over or under it: with q and r / c the whole part and the fraction of x, it
+-- is q and x is r / c over it, or it is q + 1, r / c is a half at least, and x is 1 - r / c under it
 abbrev pub gap : Float → Float
 gap x = sub binary64 x (bounced x)
 

@@ -1,4 +1,5 @@
--- Powers of two and numbers of digits: `size-gt` (a number of 2 ^ j at least has more than j digits), `size-exact`, `pow-le→le`, `pow-lt→lt`, `pow-split`, `halves`. And what `compare` says (`cmp`). Assumes nothing.
+-- Powers of two and numbers of digits: `size-gt` (a number of 2 ^ j at least has more than j digits), `size-exact`,
+-- `pow-le→le`, `pow-lt→lt`, `pow-split`, `halves`. And what `compare` says (`cmp`). Assumes nothing.
 use mathlib.Core.Path.{_≡_, refl, sym, ap, _∙_, subst}
 use Prim.Native.Nat.{ℕ, zero, suc, _+_, _-_, _*_, _/_, _%_, _^_, _≤_, _<_, compare, Ordering, Ordering·lt, Ordering·eq, Ordering·gt}
 use native.Mathlib.Omega.{arith}

@@ -1,5 +1,9 @@
--- From tests on floats to bounds on whole numbers. With lo = ceil(x), hi = floor(y), once `lo < 0`, `hi > n` and `hi - lo < m` have all failed: `interval-is` says for finite x and y that lo and hi are whole numbers (`Upto`), at most n and at least m apart;
--- `ends-ordered` says for any lo and any hi but a NaN (every test fails on a NaN) that `lo as usize` is at most `hi as usize`, and that at most n. `upto-back`, `upto-is`: what such a whole number is. `rank-most`: a rank among k + 1 values is at most k. Assumes nothing.
+-- From tests on floats to bounds on whole numbers. With lo = ceil(x), hi = floor(y), once `lo < 0`, `hi > n` and `hi
+-- - lo < m` have all failed: `interval-is` says for finite x and y that lo and hi are whole numbers (`Upto`), at most
+-- n and at least m apart;
+-- `ends-ordered` says for any lo and any hi but a NaN (every test fails on a NaN) that `lo as usize` is at most `hi
+-- as usize`, and that at most n. `upto-back`, `upto-is`: what such a whole number is. `rank-most`: a rank among k + 1
+-- values is at most k. Assumes nothing.
 use mathlib.Core.Path.{_≡_, refl, sym, ap, _∙_, subst}
 use mathlib.Core.Logic.{_⊎_, inl, inr}
 use Prim.Native.Nat.{ℕ, suc, _+_, _-_, _*_, _^_, _≤_, _<_, zero-le}

@@ -1,22 +1,38 @@
--- Laws that the proofs of `float` share and that the crates above cite, by subject. `HasValue x s a c` of `lib.Ieee.Exact` says that x is finite, has the sign s and is a / c in size: work with it, and not with digits and exponents.
+-- Laws that the proofs of `float` share and that the crates above cite, by subject. `HasValue x s a c` of
+-- `lib.Ieee.Exact` says that x is finite, has the sign s and is a / c in size: work with it, and not with digits and
+-- exponents.
 
 -- Digits      powers of two, numbers of digits, what `compare` says
 -- Exactly     a format writes each number in one way: `unique`, `round-self`, `round-value`, `few-exact`, `neg-round`
--- Compared    `<` and `<=` on values from 0 up, and the cast to an integer: `lt→cross`, `le→value`, `unsigned-value`, `unsigned-none`; `yes`, `no` turn a branch's equation into `T`
--- Sums        + - * / on values: `add-over`, `sub-over`, `mul-over`, `div-over`; above and below zero: `under-zero`, `over-zero`, `not-under`
--- Ordered     the cast keeps the order, for all floats: `unsigned-mono`; a difference above zero has its operands in order: `sub-above`; `quotient-mono`
--- Counts      whole numbers as floats: `whole-value`, `whole-back`, `whole-injective`, `whole-lt`, `whole-le`, `whole-add`, `whole-sub`, `whole-mul`
--- Signs       the sign of a result, and that it is no NaN: `round-signed`, `add-signed`, `square-signed`, `mul-signed`, `div-signed`, `sqrt-signed`, `abs-signed`
--- Monotone    `neg-le`, `lt-le`, `not-lt-le`, `le-through`, `signed-le`; `floor-mono`, `ceil-mono`, `round-mono`; `floor-keeps`, `ceil-keeps`, `round-keeps`
--- Within      how large a result can be, so that it is finite: `add-within`, `sub-within`, `mul-within`, `div-within`, `floor-within`, `ceil-within`, `nearest-within`, `sqrt-within`, `narrow-within`, `max-within`, `whole-within`, `finite-within`; `le-within`, `within-le`
--- Bounds      the same with a factor, a * 2 ^ k, for sums of many terms and their means: `Bounded`, `bounded-add`, `bounded-mul`, `bounded-div`, `bounded-mean`, `bounded-round`, `bounded-single`
--- Amounts     finite, with the sign plus: `Amount`; `amount-root`, `amount-half`, `amount-squares`, `amount-number`, `amount-above`; where a threshold is crossed: `share-bounded`
--- Intervals   from tests on floats to bounds on whole numbers: `interval-is`, `ends-ordered`, `floor-upto`, `ceil-upto`, `round-upto`, `upto-back`, `upto-is`, `rank-most`
+-- Compared    `<` and `<=` on values from 0 up, and the cast to an integer: `lt→cross`, `le→value`, `unsigned-value`,
+--             `unsigned-none`; `yes`, `no` turn a branch's equation into `T`
+-- Sums        + - * / on values: `add-over`, `sub-over`, `mul-over`, `div-over`; above and below zero: `under-zero`,
+--             `over-zero`, `not-under`
+-- Ordered     the cast keeps the order, for all floats: `unsigned-mono`; a difference above zero has its operands in
+--             order: `sub-above`; `quotient-mono`
+-- Counts      whole numbers as floats: `whole-value`, `whole-back`, `whole-injective`, `whole-lt`, `whole-le`,
+--             `whole-add`, `whole-sub`, `whole-mul`
+-- Signs       the sign of a result, and that it is no NaN: `round-signed`, `add-signed`, `square-signed`,
+--             `mul-signed`, `div-signed`, `sqrt-signed`, `abs-signed`
+-- Monotone    `neg-le`, `lt-le`, `not-lt-le`, `le-through`, `signed-le`; `floor-mono`, `ceil-mono`, `round-mono`;
+--             `floor-keeps`, `ceil-keeps`, `round-keeps`
+-- Within      how large a result can be, so that it is finite: `add-within`, `sub-within`, `mul-within`,
+--             `div-within`, `floor-within`, `ceil-within`, `nearest-within`, `sqrt-within`, `narrow-within`,
+--             `max-within`, `whole-within`, `finite-within`; `le-within`, `within-le`
+-- Bounds      the same with a factor, a * 2 ^ k, for sums of many terms and their means: `Bounded`, `bounded-add`,
+--             `bounded-mul`, `bounded-div`, `bounded-mean`, `bounded-round`, `bounded-single`
+-- Amounts     finite, with the sign plus: `Amount`; `amount-root`, `amount-half`, `amount-squares`, `amount-number`,
+--             `amount-above`; where a threshold is crossed: `share-bounded`
+-- Intervals   from tests on floats to bounds on whole numbers: `interval-is`, `ends-ordered`, `floor-upto`,
+--             `ceil-upto`, `round-upto`, `upto-back`, `upto-is`, `rank-most`
 -- Picks, Cuts, Wholes     floor, ceil, round by the whole number next to x
 -- Remainders  `rem-small`, and what `rem_one` does in place of `%`; `rem-one-within`
 -- Patterns, Narrowing     bit patterns, and the f32 nearest to an f64
 -- Squares, Roots, Value, Meaning     the square root; `sqrt-nearest`: no other value is nearer to it; `nearest-unique`
--- Ties, Rounding          what `round` means, and what is defined by it: no other value is nearer, and a tie goes to the even one: `round-rounded`, `round-nearest`, `round-infinite`, `rounded-unique`; `narrow-rounded`, `of-rounded`, `fraction-rounded`, `add-rounded`, `sub-rounded`, `mul-rounded`, `div-rounded`; `root-nearest`; `counted`, `last-bit`
+-- Ties, Rounding          what `round` means, and what is defined by it: no other value is nearer, and a tie goes to the even
+--             one: `round-rounded`, `round-nearest`, `round-infinite`, `rounded-unique`; `narrow-rounded`,
+--             `of-rounded`, `fraction-rounded`, `add-rounded`, `sub-rounded`, `mul-rounded`, `div-rounded`;
+--             `root-nearest`; `counted`, `last-bit`
 -- Unrounded   floor, ceil, round lose nothing to the format: `floor-exact`, `ceil-exact`, `nearest-exact`
 pub mod Digits
 pub mod Exactly

@@ -1,4 +1,5 @@
--- What `sqrtOf` comes to, in either format, at a value above zero: it is a value of the format, and no other is as near to the root. Assumes nothing.
+-- What `sqrtOf` comes to, in either format, at a value above zero: it is a value of the format, and no other is as
+-- near to the root. Assumes nothing.
 use mathlib.Core.Path.{_≡_, sym, ap, _∙_, subst}
 use mathlib.Core.Logic.{_⊎_, inl, inr}
 use mathlib.Core.Bool.{Bool, false}

@@ -1,5 +1,9 @@
--- Order. `le-fin`, `fin-le`: what `<=` of two finite values says of their signs and sizes. `neg-le`: a minus turns it round. `lt-le`, `not-lt-le`: between the tests. `le-through`: by way of a third. `minus-le-plus`, `signed-le`: by sign.
--- `floor-mono`, `ceil-mono`, `round-mono`: x at most y has floor, ceil and round of x at most those of y; `floor-keeps`, `ceil-keeps`, `round-keeps`: a whole number stays. With infinities and minus signs among the values. Assumes nothing.
+-- Order. `le-fin`, `fin-le`: what `<=` of two finite values says of their signs and sizes. `neg-le`: a minus turns it
+-- round. `lt-le`, `not-lt-le`: between the tests. `le-through`: by way of a third. `minus-le-plus`, `signed-le`: by
+-- sign.
+-- `floor-mono`, `ceil-mono`, `round-mono`: x at most y has floor, ceil and round of x at most those of y;
+-- `floor-keeps`, `ceil-keeps`, `round-keeps`: a whole number stays. With infinities and minus signs among the values.
+-- Assumes nothing.
 use mathlib.Core.Path.{_≡_, refl, sym, ap, _∙_, subst}
 use mathlib.Core.Logic.{inl, inr}
 use Prim.Native.Nat.{ℕ, _+_, _*_, _≤_, _<_}

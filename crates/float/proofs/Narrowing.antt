@@ -1,4 +1,5 @@
--- `narrow_bits` on plain numbers: the `f64` with the pattern a, without its sign, is D * 2 ^ K of the smallest `f64`. As an `f32` it is q * 2 ^ k of the smallest `f32`,
+-- `narrow_bits` on plain numbers: the `f64` with the pattern a, without its sign, is D * 2 ^ K of the smallest `f64`.
+-- As an `f32` it is q * 2 ^ k of the smallest `f32`,
 -- with q = closest D (2 ^ j) and K + j = 925 + k, and the pattern of that is k * 2 ^ 23 + q. Assumes nothing.
 use mathlib.Core.Path.{_≡_, refl, sym, ap, _∙_, subst}
 use mathlib.Core.Logic.{_⊎_, inl, inr}

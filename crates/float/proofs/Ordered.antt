@@ -1,4 +1,6 @@
--- From tests on floats to bounds on integers: `toUnsigned` keeps the order (`unsigned-mono`), and a difference above zero has its operands in order (`sub-above`). A quotient grows with its numerator and shrinks as its denominator grows (`div-mono`).
+-- From tests on floats to bounds on integers: `toUnsigned` keeps the order (`unsigned-mono`), and a difference above
+-- zero has its operands in order (`sub-above`). A quotient grows with its numerator and shrinks as its denominator
+-- grows (`div-mono`).
 -- Over any format, with infinities and negative values among the operands. Assumes nothing.
 use mathlib.Core.Path.{_≡_, refl, sym, ap, _∙_, subst}
 use mathlib.Core.Logic.{inl, inr}

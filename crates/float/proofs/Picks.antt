@@ -1,4 +1,7 @@
--- A fraction a / c to a whole number, toward zero (`cut`), away from zero (`lifted`) and to the nearest (`halfUp`). `Steps`: a larger fraction gives no smaller number, and a whole number stays. With q and r the quotient and the remainder of a by c: which of q and q + 1 each gives. floor, ceil and round are each a way for either sign (`wholly`, `floor-is`, `ceil-is`, `round-is`). Assumes nothing.
+-- A fraction a / c to a whole number, toward zero (`cut`), away from zero (`lifted`) and to the nearest (`halfUp`).
+-- `Steps`: a larger fraction gives no smaller number, and a whole number stays. With q and r the quotient and the
+-- remainder of a by c: which of q and q + 1 each gives. floor, ceil and round are each a way for either sign
+-- (`wholly`, `floor-is`, `ceil-is`, `round-is`). Assumes nothing.
 use mathlib.Core.Path.{_≡_, refl, sym, ap, _∙_}
 use mathlib.Core.Logic.{inl, inr}
 use Prim.Native.Nat.{ℕ, zero, suc, _+_, _-_, _*_, _/_, _%_, _≤_, _<_, zero-le}

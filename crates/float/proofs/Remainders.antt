@@ -1,4 +1,5 @@
--- |x| where x is not above zero (`abs-other`), and remainders: a % b is a itself where |a| is below |b| (`rem-small`); what `rem_one` gets from the whole number next to x (`above-is`, `below-is`). Assumes nothing.
+-- |x| where x is not above zero (`abs-other`), and remainders: a % b is a itself where |a| is below |b|
+-- (`rem-small`); what `rem_one` gets from the whole number next to x (`above-is`, `below-is`). Assumes nothing.
 use mathlib.Core.Path.{_≡_, refl, sym, ap, _∙_, subst}
 use Prim.Native.Nat.{ℕ, zero, suc, _+_, _-_, _*_, _/_, _%_, _^_, _≤_, _<_, zero-le}
 use native.Mathlib.Nat.{le-of-eq, le-trans, le-of-lt, lt-of-le-of-lt, lt-irrefl, zero-lt-suc, zero-mul, mul-one, one-mul, zero-add, mul-pos, mul-comm, mul-assoc, mod-eq-of-lt, mod-lt}

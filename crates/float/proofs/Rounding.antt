@@ -1,6 +1,9 @@
--- What `round` means, in either format (`round-rounded`): no other value of the format, of either sign, is as near to the fraction as the result, but at a tie, where the result is the one whose
--- last digit is even. From half-way between the largest finite value and the next power of two on, and only there, it is an infinity. Only one value is that (`rounded-unique`). In whole numbers:
--- a finite value is a number of units of the format's smallest. What is defined by `round` has it too: `narrow-rounded`, `of-rounded`, `fraction-rounded`, `add-rounded`, `sub-rounded`, `mul-rounded`, `div-rounded`.
+-- What `round` means, in either format (`round-rounded`): no other value of the format, of either sign, is as near to
+-- the fraction as the result, but at a tie, where the result is the one whose
+-- last digit is even. From half-way between the largest finite value and the next power of two on, and only there, it
+-- is an infinity. Only one value is that (`rounded-unique`). In whole numbers:
+-- a finite value is a number of units of the format's smallest. What is defined by `round` has it too:
+-- `narrow-rounded`, `of-rounded`, `fraction-rounded`, `add-rounded`, `sub-rounded`, `mul-rounded`, `div-rounded`.
 -- And `root-nearest`: `sqrt-nearest` of each value above zero. Assumes nothing.
 use mathlib.Core.Path.{_≡_, refl, sym, ap, _∙_, subst}
 use mathlib.Core.Logic.{inl, inr, ⊎-elim, _↔_}
@@ -36,7 +39,8 @@ apart s a t b = cond (Bool·beq s t) (a - b + (b - a)) (a + b)
 abbrev pub Over : Format → ℕ → ℕ → Type 0
 Over f a c = (2 ^ suc (prec f) - 1) * 2 ^ (suc (emax f) - prec f) * c ≤ 2 * a
 
--- x is ± r units of 2 ^ -low. Each value y of the format, ± b units, that is another number is farther from ± a / c; or it is as far, and the last digit of x is even and that of y is odd.
+-- x is ± r units of 2 ^ -low. Each value y of the format, ± b units, that is another number is farther from ± a / c;
+-- or it is as far, and the last digit of x is even and that of y is odd.
 -- (The distances are times c * 2 ^ low.)
 pub record Near (f : Format) (s : Bool) (a c : ℕ) (x : Float) : Type 0 where
   pub r : ℕ
@@ -207,7 +211,8 @@ rounded-unique f s a c x y v w = go (decLe ((2 ^ suc (prec f) - 1) * 2 ^ (suc (e
         let e : p .r ≡ q .r = same s (p .r) (q .r) (λ h. clash (p .r) (q .r) (apart s (a * 2 ^ low f) s (p .r * c)) (apart s (a * 2 ^ low f) s (q .r * c)) (p .nearest y s (q .r) (w .held) (q .value) h) (q .nearest x s (p .r) (v .held) (p .value) (flip s (p .r) (q .r) h))) in
         unique f x y s (p .r) (2 ^ low f) (pow-pos (low f)) (v .held) (w .held) (p .value) (subst (λ (z : ℕ). HasValue y s z (2 ^ low f)) (sym e) (q .value))
 
--- ---- what is defined by `round`. An operand is a value of which only its fraction is known: `HasValue x s a c` says that x is ± a / c.
+-- ---- what is defined by `round`. An operand is a value of which only its fraction is known: `HasValue x s a c` says
+-- that x is ± a / c.
 
 pub narrow-rounded : (x : Float) (s : Bool) (a c : ℕ) → 0 < c → HasValue x s a c → Rounded binary32 s a c (narrowOf x)
 unfolding narrowOf

@@ -1,5 +1,7 @@
--- The sign of a result. `Signed s x`: x is no NaN and has the sign s (an infinity counts, and so does a zero by its sign bit). A rounded value has the sign that it was given, `round-signed`;
--- `add-signed`, `square-signed`, `mul-signed`, `div-signed`, `sqrt-signed`, `abs-signed`, `narrow-signed`: the operations. `signed-number`: no NaN. (`signed-le` of `Monotone`: not below zero.) Over any format. Assumes nothing.
+-- The sign of a result. `Signed s x`: x is no NaN and has the sign s (an infinity counts, and so does a zero by its
+-- sign bit). A rounded value has the sign that it was given, `round-signed`;
+-- `add-signed`, `square-signed`, `mul-signed`, `div-signed`, `sqrt-signed`, `abs-signed`, `narrow-signed`: the
+-- operations. `signed-number`: no NaN. (`signed-le` of `Monotone`: not below zero.) Over any format. Assumes nothing.
 use mathlib.Core.Path.{_≡_, refl, sym, ap, _∙_, subst}
 use Prim.Native.Nat.{ℕ, zero, suc, _+_, _*_, _/_, _^_, _<_}
 use mathlib.Core.Bool.{Bool, true, false, not, Bool·beq, cond, true≢false}

@@ -84,7 +84,8 @@ square-pred q p = omega (arith, square-next (q - 1), ap (λ (x : ℕ). x * x) (b
     back : (q : ℕ) → 0 < q → q - 1 + 1 ≡ q
     back q p = omega arith
 
--- ---- 26 more digits of a root by a division. s is a root of 27 digits and l what is left over; q is the guess s * 2 ^ 26 + a, where a and u
+-- ---- 26 more digits of a root by a division. s is a root of 27 digits and l what is left over; q is the guess s * 2
+-- ^ 26 + a, where a and u
 -- are the quotient and the remainder of l * 2 ^ 26 by s * 2. It is the root, or one too large.
 
 pub record Guess (s l a u : ℕ) : Type 0 where

@@ -1,4 +1,6 @@
--- The four operations on values that are known as fractions (`HasValue x s a c`: x is ± a / c): `add-over`, `sub-over` turn them into `sum` of the numerators over the one denominator, and `sum-plus`, `sum-less`, `sum-more` say what that is; `mul-over`, `div-over`.
+-- The four operations on values that are known as fractions (`HasValue x s a c`: x is ± a / c): `add-over`,
+-- `sub-over` turn them into `sum` of the numerators over the one denominator, and `sum-plus`, `sum-less`, `sum-more`
+-- say what that is; `mul-over`, `div-over`.
 -- Where a value stands to zero: `under-zero`, `over-zero`, `not-under`, `not-over`. Over any format. Assumes nothing.
 use mathlib.Core.Path.{_≡_, refl, sym, ap, _∙_, subst}
 use Prim.Native.Nat.{ℕ, zero, suc, _+_, _-_, _*_, _≤_, _<_}

@@ -1,5 +1,7 @@
--- A fraction of whole numbers n / c rounded to p digits, a tie to the even number: what is nearest of the numbers with p digits and zeros after them. `Best`, `best`: for what `round` computes,
--- in units of the format's smallest value. And the largest finite value, and the power of two after it. Assumes nothing.
+-- A fraction of whole numbers n / c rounded to p digits, a tie to the even number: what is nearest of the numbers
+-- with p digits and zeros after them. `Best`, `best`: for what `round` computes,
+-- in units of the format's smallest value. And the largest finite value, and the power of two after it. Assumes
+-- nothing.
 use mathlib.Core.Path.{_≡_, refl, sym, ap, _∙_, subst}
 use mathlib.Core.Logic.{_⊎_, inl, inr, ⊎-elim}
 use mathlib.Core.Bool.{Bool, true, false, cond}
@@ -111,7 +113,8 @@ odd-last p k g b P d e o deep =
         (eq-of-mul-eq-mul-right (2 ^ k) (pow-pos k) g (d .m * 2 ^ i * 2)
         (sym e ∙ d .is ∙ ap (λ (j : ℕ). d .m * 2 ^ j) s ∙ sym (pow-split (d .m) (suc i) k) ∙ ap (λ (x : ℕ). d .m * x * 2 ^ k) (pow-suc 2 i) ∙ ap (λ (x : ℕ). x * 2 ^ k) (sym (mul-assoc (d .m) (2 ^ i) 2))))
 
--- ---- n / c, in units, rounded to q * 2 ^ k, against a number b of p digits and zeros. Where digits are dropped, all p are in use.
+-- ---- n / c, in units, rounded to q * 2 ^ k, against a number b of p digits and zeros. Where digits are dropped, all
+-- p are in use.
 
 -- l is less than g; or they are the same, and q is even, and the last digit of b is odd
 abbrev Beaten : ℕ → ℕ → ℕ → ℕ → ℕ → Type 0
@@ -192,7 +195,8 @@ module _ (p k n c q b : ℕ) (P : 0 < p) (C : 0 < c) (d : Digits p b) (near : Ha
             | inr e ↦ inl e
           ]
 
--- ---- in units the fraction is n / c, and the result r. Of the numbers with as many digits as the format has, however large, none is as near, or one is and r is even
+-- ---- in units the fraction is n / c, and the result r. Of the numbers with as many digits as the format has,
+-- however large, none is as near, or one is and r is even
 
 -- l is less than g; or they are the same, and the last digit of r is even, and that of b is odd
 abbrev pub Closer : Format → ℕ → ℕ → ℕ → ℕ → Type 0

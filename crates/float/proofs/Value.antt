@@ -74,7 +74,8 @@ low-bits b h =
     let r : b % 2 ^ 52 ≡ b = omega arith in
     positive-fields b (omega arith) ∙ ap (λ (x : ℕ). ofFields binary64 false x (b % 2 ^ 52)) z ∙ ap (λ (t : ℕ). ofFields binary64 false 0 t) r ∙ low-fields false b
 
--- a pattern that is k times the exponent's weight and a c of 53 digits, whose leading one adds one to the exponent's field
+-- a pattern that is k times the exponent's weight and a c of 53 digits, whose leading one adds one to the exponent's
+-- field
 pub mid-bits : (k c : ℕ) → suc k < 2047 → 2 ^ 52 ≤ c → c < 2 ^ 53 → ofBits binary64 (k * 2 ^ 52 + c) ≡ odd 53 false c k 1074
 mid-bits k c h lo hi =
     let b = k * 2 ^ 52 + c in

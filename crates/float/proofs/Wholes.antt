@@ -1,4 +1,5 @@
--- `floor`, `ceil` and `round` on a value above zero: below 2 ^ 52 by the whole number next to it (`small-is`), and from there on the value itself, which is whole (`large`); then by sign. Assumes nothing.
+-- `floor`, `ceil` and `round` on a value above zero: below 2 ^ 52 by the whole number next to it (`small-is`), and
+-- from there on the value itself, which is whole (`large`); then by sign. Assumes nothing.
 use mathlib.Core.Path.{_≡_, refl, sym, ap, _∙_, subst}
 use Prim.Native.Nat.{ℕ, zero, suc, _+_, _-_, _*_, _/_, _%_, _^_, _≤_, _<_}
 use native.Mathlib.Nat.{le-trans, le-of-eq, lt-of-lt-of-le, not-le-of-lt, zero-lt-suc, zero-mul, mul-one, one-mul, mul-pos, div-lt-iff-lt-mul, mul-le-mul-right, pow-succ'}

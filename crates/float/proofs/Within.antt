@@ -1,5 +1,9 @@
--- How large a result can be. `Within k x`: x is finite and at most 2 ^ k in size. Sums, differences, products and quotients of such values stay such, `add-within`, `sub-within`, `mul-within`, `div-within`; so do `neg`, `abs`, `max`, floor, ceil, round, the f32 nearest (`narrow-within`), and `sqrt-within`: the root of what is at most 4 ^ k. `finite-within`: what a format holds.
--- `le-within`, `within-le`: the test |x| <= 2 ^ k. `within-finite`, `within-number`: it is finite, and no NaN. Over any format but for the whole numbers. Assumes nothing.
+-- How large a result can be. `Within k x`: x is finite and at most 2 ^ k in size. Sums, differences, products and
+-- quotients of such values stay such, `add-within`, `sub-within`, `mul-within`, `div-within`; so do `neg`, `abs`,
+-- `max`, floor, ceil, round, the f32 nearest (`narrow-within`), and `sqrt-within`: the root of what is at most 4 ^ k.
+-- `finite-within`: what a format holds.
+-- `le-within`, `within-le`: the test |x| <= 2 ^ k. `within-finite`, `within-number`: it is finite, and no NaN. Over
+-- any format but for the whole numbers. Assumes nothing.
 use mathlib.Core.Path.{_≡_, refl, sym, ap, _∙_, subst}
 use Prim.Native.Nat.{ℕ, zero, suc, _+_, _-_, _*_, _^_, _≤_, _<_, zero-le}
 use native.Mathlib.Nat.{lt-irrefl, lt-of-not-le, le-of-suc-le-suc, le-of-lt, zero-mul, zero-lt-suc, pow-succ', le-trans, le-of-eq, lt-of-lt-of-le, lt-of-le-of-lt, mul-one, one-mul, mul-pos, mul-comm, mul-assoc, mul-right-comm, mul-mul-mul-comm, mul-le-mul, mul-le-mul-right, le-of-mul-le-mul-right}

@@ -1,4 +1,5 @@
--- The single operations of IEEE 754 at 64 bits, the f64 nearest to a fraction of whole numbers, and the small literals of the code. Definitions only, and what each literal is.
+-- The single operations of IEEE 754 at 64 bits, the f64 nearest to a fraction of whole numbers, and the small
+-- literals of the code. Definitions only, and what each literal is.
 use Prim.Native.Nat.{ℕ}
 use mathlib.Core.Path.{_≡_, refl}
 use mathlib.Core.Bool.{false, cond}

@@ -4,7 +4,8 @@ use Prim.Native.Nat.{ℕ, _+_, _-_, _*_, _/_, _%_, _^_, _≤_, _<_}
 use mathlib.Core.Bool.{cond}
 use lib.Dec.{ltb}
 
--- c is the whole number nearest to the root of p: (2 * c - 1) ^ 2 < 4 * p < (2 * c + 1) ^ 2. (No root is half-way between two whole numbers.)
+-- c is the whole number nearest to the root of p: (2 * c - 1) ^ 2 < 4 * p < (2 * c + 1) ^ 2. (No root is half-way
+-- between two whole numbers.)
 pub record NearRoot (p c : ℕ) : Type 0 where
   pub above : c * c < p + c
   pub below : p ≤ c * c + c

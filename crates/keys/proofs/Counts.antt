@@ -1,4 +1,5 @@
--- What the program counts on: the step at its rate, and the counts of an estimate that was not refused. Assumes nothing.
+-- What the program counts on: the step at its rate, and the counts of an estimate that was not refused. Assumes
+-- nothing.
 use Prim.Native.Nat.{ℕ, zero, suc, _*_, _/_, _≤_}
 use native.Mathlib.Omega.{arith}
 use mathlib.Core.Path.{_≡_, refl, ap, _∙_}

@@ -1,4 +1,5 @@
--- A percentile is one of the list's numbers: what holds of each of them holds of it (`percentile-keeps`). Assumes nothing.
+-- A percentile is one of the list's numbers: what holds of each of them holds of it (`percentile-keeps`). Assumes
+-- nothing.
 use Prim.Native.Nat.{ℕ, suc, _<_}
 use native.Mathlib.Omega.{arith}
 use mathlib.Core.Path.{_≡_, sym, subst}

@@ -1,4 +1,5 @@
--- Counting: cells of keys that lie side by side add up (`below-next`, `below-split`), a histogram takes up one key more (`histogram-turn`) and sums to what lies below a digit (`histogram-sum`). Assumes nothing.
+-- Counting: cells of keys that lie side by side add up (`below-next`, `below-split`), a histogram takes up one key
+-- more (`histogram-turn`) and sums to what lies below a digit (`histogram-sum`). Assumes nothing.
 use mathlib.Core.Path.{_≡_, refl, sym, ap, _∙_, subst}
 use mathlib.Core.Logic.{_⊎_, inl, inr}
 use mathlib.Core.Bool.{Bool, true, false, not, cond}

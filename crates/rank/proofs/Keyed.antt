@@ -1,4 +1,5 @@
--- Keys stand in the order of the values (`precedes-key`), and a key gives its value back (`value-key`), which is one that a value can have (`is-key`). Assumes nothing.
+-- Keys stand in the order of the values (`precedes-key`), and a key gives its value back (`value-key`), which is one
+-- that a value can have (`is-key`). Assumes nothing.
 use mathlib.Core.Path.{_≡_, refl, sym, ap, _∙_, subst}
 use mathlib.Core.Logic.{_⊎_, inl, inr}
 use mathlib.Core.Bool.{Bool, true, false, not, _&&_, _||_, Bool·beq, cond}

@@ -1,5 +1,7 @@
--- The sorted list and the counts agree. What stands at a rank of the sorted list has at most so many of the list before it, and more not after it (`sorted-counts`); and only one f64 has that property (`counts-unique`).
--- So counting finds the percentile (`percentile-counts`), and so does the key that the counts of keys select (`selected`). Assumes nothing.
+-- The sorted list and the counts agree. What stands at a rank of the sorted list has at most so many of the list
+-- before it, and more not after it (`sorted-counts`); and only one f64 has that property (`counts-unique`).
+-- So counting finds the percentile (`percentile-counts`), and so does the key that the counts of keys select
+-- (`selected`). Assumes nothing.
 use mathlib.Core.Path.{_≡_, refl, sym, ap, _∙_, subst}
 use mathlib.Core.Logic.{_⊎_, inl, inr}
 use mathlib.Core.Bool.{Bool, true, false, not, cond}

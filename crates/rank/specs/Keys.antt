@@ -1,4 +1,5 @@
--- What the functions that `percentile` is made of ensure: whole numbers in the order of the values, and how many of them lie in a cell. Definitions only.
+-- What the functions that `percentile` is made of ensure: whole numbers in the order of the values, and how many of
+-- them lie in a cell. Definitions only.
 use Prim.Native.Nat.{ℕ, zero, suc, _+_, _-_, _*_, _/_, _^_, _≤_, _<_}
 use mathlib.Core.Path.{_≡_}
 use mathlib.Core.Logic.{_⊎_}

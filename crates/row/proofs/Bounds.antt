@@ -1,5 +1,7 @@
--- Every amplitude of the row is an amount: finite, not negative and no -0.0, at any rate and any carrier, a NaN and the infinities included (`row-amount`).
--- A finite f32 is below 2 ^ 128 and a sine at most 2 ^ 50, so that 2 ^ 20 moves of the running sum stay far below the largest f64 and their squares too. Assumes nothing.
+-- Every amplitude of the row is an amount: finite, not negative and no -0.0, at any rate and any carrier, a NaN and
+-- the infinities included (`row-amount`).
+-- A finite f32 is below 2 ^ 128 and a sine at most 2 ^ 50, so that 2 ^ 20 moves of the running sum stay far below the
+-- largest f64 and their squares too. Assumes nothing.
 use mathlib.Core.Path.{_≡_, sym, subst}
 use mathlib.Core.Bool.{true, false, false≢true}
 use mathlib.Core.List.{List}

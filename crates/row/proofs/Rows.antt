@@ -1,4 +1,5 @@
--- The row of amplitudes in the work slice: it is that of the block means stored before it, read by its index or as a list.
+-- The row of amplitudes in the work slice: it is that of the block means stored before it, read by its index or as a
+-- list.
 use Prim.Native.Nat.{ℕ, zero, suc, _+_, _-_, _*_, _/_, _≤_, _<_}
 use native.Mathlib.Nat.{not-suc-le-zero, eq-or-lt-of-le, le-of-suc-le-suc, div-lt-iff-lt-mul, le-div-iff-mul-le}
 use native.Mathlib.Omega.{arith}

@@ -1,4 +1,5 @@
--- The step of the edge window grows with the rate, and lies from 1 to 64: it is 1 or more for every rate, and 64 at 192,000.
+-- The step of the edge window grows with the rate, and lies from 1 to 64: it is 1 or more for every rate, and 64 at
+-- 192,000.
 use mathlib.Core.Path.{_≡_, refl, sym}
 use mathlib.Core.Bool.{Bool, true, false, not, cond, false≢true}
 use Prim.Native.Nat.{ℕ, _≤_}

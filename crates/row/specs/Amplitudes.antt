@@ -1,4 +1,5 @@
--- The amplitude row (01, part 2): B − 7 amplitudes, by the Rust's running sum from left to right; none if n < window. Definitions only.
+-- The amplitude row (01, part 2): B − 7 amplitudes, by the Rust's running sum from left to right; none if n < window.
+-- Definitions only.
 use Prim.Native.Nat.{ℕ, zero, suc, _+_, _-_}
 use mathlib.Core.List.{List, [], _∷_, _++_}
 use lib.Ieee.{Float}

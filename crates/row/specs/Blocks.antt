@@ -1,4 +1,5 @@
--- The recording derotated by a carrier, and its means over blocks (01, part 2: `derotated`, `block_means` as in the Rust). Definitions only.
+-- The recording derotated by a carrier, and its means over blocks (01, part 2: `derotated`, `block_means` as in the
+-- Rust). Definitions only.
 -- A carrier enters as cycles per sample, cyc = carrier_hz / fs.
 use Prim.Native.Nat.{ℕ, _*_}
 use mathlib.Core.List.{List}

@@ -1,4 +1,5 @@
--- A recording (01, head and questions 2 and 3): n complex samples lent as 2 n f32, real then imaginary. Definitions only.
+-- A recording (01, head and questions 2 and 3): n complex samples lent as 2 n f32, real then imaginary. Definitions
+-- only.
 use Prim.Native.Nat.{ℕ, _≤_}
 use mathlib.Core.Path.{_≡_}
 use mathlib.Core.Bool.{Bool, true, false}

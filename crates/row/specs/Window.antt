@@ -1,4 +1,5 @@
--- The sample rate, and `step` and `window`, which come from `edge_window` (01, head and question 1). Definitions only, and the bit pattern of the constant.
+-- The sample rate, and `step` and `window`, which come from `edge_window` (01, head and question 1). Definitions
+-- only, and the bit pattern of the constant.
 use Prim.Native.Nat.{ℕ, _*_, _/_}
 use mathlib.Core.Path.{_≡_, refl}
 use mathlib.Core.Bool.{Bool, _&&_}

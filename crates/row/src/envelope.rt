@@ -55,7 +55,8 @@ fn running(work: &mut [f64], b: usize)
     work[o + n] = run.div_real(8.0).norm();
 }
 
-// The means of the blocks of `step` samples as complex numbers from the start of `work` on, and after them their row of amplitudes.
+// The means of the blocks of `step` samples as complex numbers from the start of `work` on, and after them their row
+// of amplitudes.
 pub fn amplitudes(iq: &[f32], cyc: f64, step: usize, work: &mut [f64], sine: &[u64; 1025])
     requires { ⌜ Iq (now iq) ⌝ }
     requires { ⌜ now sine ≡ sineTable ⌝ }

@@ -1,4 +1,5 @@
--- Angles of size up to 7: x × (2048/π) is below 8192 in size, and what is left of x after the nearest place is as well reached from the mark. Assumes nothing.
+-- Angles of size up to 7: x × (2048/π) is below 8192 in size, and what is left of x after the nearest place is as
+-- well reached from the mark. Assumes nothing.
 use mathlib.Core.Path.{_≡_, refl, sym, ap, _∙_, subst}
 use mathlib.Core.Logic.{inl, inr}
 use Prim.Native.Nat.{ℕ, zero, suc, _*_, _%_, _^_, _≤_, _<_, zero-le}

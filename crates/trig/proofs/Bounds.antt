@@ -1,4 +1,5 @@
--- The sine and the cosine are finite, of size at most 2 ^ 50, at every x, a NaN and the infinities included: beyond 7 they are 0.0, and up to 7 each step has a bound. Assumes nothing.
+-- The sine and the cosine are finite, of size at most 2 ^ 50, at every x, a NaN and the infinities included: beyond 7
+-- they are 0.0, and up to 7 each step has a bound. Assumes nothing.
 use mathlib.Core.Bool.{Bool, true, false, not, cond}
 use Prim.Native.Nat.{ℕ, _-_, _^_, _≤_, _<_, zero-le}
 use native.Mathlib.Nat.{le-trans, le-of-eq}

@@ -1,4 +1,5 @@
--- A fraction rounded with either sign has one size (`shape`), and rounded to below a number of the format it lies below it (`under`). Over any format. Assumes nothing.
+-- A fraction rounded with either sign has one size (`shape`), and rounded to below a number of the format it lies
+-- below it (`under`). Over any format. Assumes nothing.
 use mathlib.Core.Path.{_≡_, refl, _∙_, subst}
 use mathlib.Core.Logic.{_⊎_, inl, inr}
 use Prim.Native.Nat.{ℕ, zero, suc, _+_, _-_, _*_, _/_, _%_, _^_, _≤_, _<_, compare}

@@ -1,4 +1,5 @@
--- The logarithm's m and e are those that the code reads off a bit pattern, of a normal number its own and of a smaller one that of 2^54 times it. Assumes nothing.
+-- The logarithm's m and e are those that the code reads off a bit pattern, of a normal number its own and of a
+-- smaller one that of 2^54 times it. Assumes nothing.
 use mathlib.Core.Path.{_≡_, refl, sym, ap, _∙_, subst}
 use Prim.Native.Nat.{ℕ, zero, suc, _+_, _-_, _*_, _/_, _%_, _^_, _≤_, _<_, zero-le}
 use native.Mathlib.Nat.{le-trans, le-of-eq, lt-of-lt-of-le, lt-of-le-of-lt, zero-lt-suc, mul-pos, mul-one, mul-assoc, mul-le-mul-right, mul-lt-mul-of-pos-right, le-of-mul-le-mul-right, lt-of-mul-lt-mul-right}

@@ -1,4 +1,5 @@
--- A whole number added to 1.5 · 2^52, the mark: the sum's last digits are the number's, and the sum of the mark and y is that of the mark and `roundOf y`, unless y lies half-way between two whole numbers. Assumes nothing.
+-- A whole number added to 1.5 · 2^52, the mark: the sum's last digits are the number's, and the sum of the mark and y
+-- is that of the mark and `roundOf y`, unless y lies half-way between two whole numbers. Assumes nothing.
 use mathlib.Core.Path.{_≡_, refl, sym, ap, _∙_, subst}
 use mathlib.Core.Logic.{inl, inr}
 use Prim.Native.Nat.{ℕ, zero, suc, _+_, _-_, _*_, _/_, _%_, _^_, _≤_, _<_}

@@ -1,4 +1,5 @@
--- A number above 0 as m·2^e with 0.75 ≤ m < 1.5: `split` proves it of the definition, subnormal numbers included, and `by-bits` that a bit pattern of a normal number holds m and e. Assumes nothing.
+-- A number above 0 as m·2^e with 0.75 ≤ m < 1.5: `split` proves it of the definition, subnormal numbers included, and
+-- `by-bits` that a bit pattern of a normal number holds m and e. Assumes nothing.
 use mathlib.Core.Path.{_≡_, refl, sym, ap, _∙_, subst}
 use Prim.Native.Nat.{ℕ, suc, _+_, _-_, _*_, _/_, _%_, _^_, _≤_, _<_}
 use native.Mathlib.Nat.{le-trans, le-of-eq, le-of-suc-le-suc, lt-of-not-le, not-le-of-lt, lt-of-lt-of-le, mul-one, one-mul, mul-comm, mul-assoc, mul-right-comm, mul-mul-mul-comm, mul-le-mul-right, mul-lt-mul-of-pos-right, eq-of-mul-eq-mul-right, mul-div-cancel, div-add-mod', mod-lt, le-div-iff-mul-le, div-lt-iff-lt-mul, pow-succ'}

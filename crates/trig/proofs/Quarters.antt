@@ -1,4 +1,5 @@
--- The table of a quarter serves the whole turn: where the code looks, and with which sign, is the quarter symmetry of `sineAt`, and 1,024 places further within a turn is i + 1024. Assumes nothing.
+-- The table of a quarter serves the whole turn: where the code looks, and with which sign, is the quarter symmetry of
+-- `sineAt`, and 1,024 places further within a turn is i + 1024. Assumes nothing.
 use mathlib.Core.Path.{_≡_, refl, sym, ap}
 use Prim.Native.Nat.{ℕ, suc, _+_, _-_, _*_, _%_, _≤_, _<_}
 use native.Mathlib.Omega.{arith}

@@ -1,4 +1,5 @@
--- The smaller over the larger of two sizes is at most 1, or a NaN, so that round(64t) is a place of the arctangents' table. Assumes nothing.
+-- The smaller over the larger of two sizes is at most 1, or a NaN, so that round(64t) is a place of the arctangents'
+-- table. Assumes nothing.
 use mathlib.Core.Path.{_≡_, refl, sym, ap, _∙_, subst}
 use mathlib.Core.Logic.{_⊎_, inl, inr}
 use Prim.Native.Nat.{ℕ, zero, suc, _*_, _^_, _≤_, _<_}

@@ -1,4 +1,5 @@
--- PI, TAU, LN_2 and LN_10 of Rust: the f64 nearest to the digits that std::f64::consts has, and the bit pattern of each, computed.
+-- PI, TAU, LN_2 and LN_10 of Rust: the f64 nearest to the digits that std::f64::consts has, and the bit pattern of
+-- each, computed.
 use Prim.Native.Nat.{_^_}
 use mathlib.Core.Path.{_≡_, refl}
 use lib.Ieee.{Float, round, ofBits}

@@ -12,11 +12,13 @@ ghost use Rattle.trig.specs.Trig.{scaled, restOf, indexOf, within, small
 
 const PI: f64 = 3.14159265358979323846264338327950288;
 
-// 1.5 × 2^52: a sum with it from 2^52 up to 2^53 has no digit after the point, and its last digits are those of the whole
+// 1.5 × 2^52: a sum with it from 2^52 up to 2^53 has no digit after the point, and its last digits are those of the
+// whole
 // number that was added, negative or not.
 const MARK: f64 = 6755399441055744.0;
 
-// MARK + round(y). The sum with MARK rounds y to the nearest whole number. Only where y may lie half-way between two does the
+// MARK + round(y). The sum with MARK rounds y to the nearest whole number. Only where y may lie half-way between two
+// does the
 // way of rounding matter.
 fn marked(y: f64) -> f64
     requires { ⌜ le (absOf y) (of 8191) ≡ true ⌝ }

@@ -42,7 +42,8 @@ fn log_parts(m: f64, e: f64) -> f64
     (e * LN_2 + 2.0 * sum((m - 1.0) / (m + 1.0))) / LN_10
 }
 
-// Of the bit pattern b of a normal number: its digits t under the exponent of 1 are a number from 1 up to 2, and from 1.5
+// Of the bit pattern b of a normal number: its digits t under the exponent of 1 are a number from 1 up to 2, and from
+// 1.5
 // on half of that, with the exponent's field one more.
 fn log_bits(b: u64, bias: f64) -> f64
     ensures { λ r. ⌜ r ≡ logOf (bits ((1023 - b % 4503599627370496 / 2251799813685248) * 4503599627370496 + b % 4503599627370496)) (of (b / 4503599627370496 + b % 4503599627370496 / 2251799813685248) ⊖ bias) ⌝ }

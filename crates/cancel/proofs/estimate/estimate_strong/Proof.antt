@@ -1,4 +1,5 @@
--- `cancel::estimate_strong` meets its contract: the first no is the answer, and where there is none, what the work below estimates. Assumes nothing.
+-- `cancel::estimate_strong` meets its contract: the first no is the answer, and where there is none, what the work
+-- below estimates. Assumes nothing.
 use mathlib.Core.Path.{_≡_, refl, sym, _∙_}
 use denote.Ref.{now}
 use lib.ListN.{length}

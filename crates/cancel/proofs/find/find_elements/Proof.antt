@@ -1,4 +1,5 @@
--- `cancel::find_elements` meets its contract: the first no is the answer, and where there is none, what the work below finds. Assumes nothing.
+-- `cancel::find_elements` meets its contract: the first no is the answer, and where there is none, what the work
+-- below finds. Assumes nothing.
 use mathlib.Core.Path.{_≡_, refl, sym, _∙_}
 use denote.Ref.{now}
 use lib.ListN.{length}

@@ -1,4 +1,5 @@
--- `cancel::questions::elements_ok` meets its contract. The loop: every element before place p is accepted. Assumes nothing.
+-- `cancel::questions::elements_ok` meets its contract. The loop: every element before place p is accepted. Assumes
+-- nothing.
 use Prim.Native.Nat.{_-_, _/_, _≤_}
 use mathlib.Core.Path.{_≡_}
 use mathlib.Core.Bool.{true}

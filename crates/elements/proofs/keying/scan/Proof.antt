@@ -1,4 +1,5 @@
--- `elements::keying::scan` meets its contract. The loop keeps `Walked`: what is pending, the counts and the list are those of the positions behind it. Assumes nothing.
+-- `elements::keying::scan` meets its contract. The loop keeps `Walked`: what is pending, the counts and the list are
+-- those of the positions behind it. Assumes nothing.
 use Prim.Native.Nat.{_-_, _≤_}
 use native.Mathlib.Omega.{arith}
 use mathlib.Core.Path.{sym, _∙_}

@@ -1,4 +1,5 @@
--- `float::single::narrow_bits` meets its contract: each range of `a` is a lemma of `proofs/Narrowing.antt`. Assumes nothing.
+-- `float::single::narrow_bits` meets its contract: each range of `a` is a lemma of `proofs/Narrowing.antt`. Assumes
+-- nothing.
 use mathlib.Core.Path.{_≡_, sym, _∙_, subst}
 use Prim.Native.Nat.{ℕ, _+_, _-_, _*_, _/_, _%_, _^_, _≤_}
 use native.Mathlib.Nat.{le-trans, le-of-eq, lt-of-le-of-lt, mod-eq-of-lt, one-mul}

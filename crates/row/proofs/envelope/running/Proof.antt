@@ -1,4 +1,5 @@
--- The invariant: i amplitudes are stored, and the running sum is the specification's number i, of the row as it was at entry.
+-- The invariant: i amplitudes are stored, and the running sum is the specification's number i, of the row as it was
+-- at entry.
 use Prim.Native.Nat.{_≤_, _-_}
 use native.Mathlib.Omega.{arith}
 use mathlib.Core.Path.{_≡_}

@@ -1,4 +1,5 @@
--- `trig::circle::small_cosine` meets its contract: the literals are the whole numbers of the definition. Assumes nothing.
+-- `trig::circle::small_cosine` meets its contract: the literals are the whole numbers of the definition. Assumes
+-- nothing.
 use mathlib.Core.Path.{refl}
 use lib.Ieee.{ofBits, ofInt}
 use Rattle.trig.proofs.circle.small_cosine.Statement.{statement}
