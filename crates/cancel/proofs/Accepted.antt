@@ -9,7 +9,7 @@ use lib.Dec.{leb, eqb}
 use lib.ListN.{length}
 use lib.Ieee.{Float}
 use borrow.Author.Tests.{leb-true}
-use Rattle.complex.specs.Every.{and-left, and-right}
+use Rattle.lists.proofs.Every.{and-left, and-right}
 use Rattle.row.specs.Window.{Rate, rateOk, stepBlocks}
 use Rattle.row.specs.Samples.{Iq, allFinite}
 use Rattle.row.proofs.Steps.{rate-is}

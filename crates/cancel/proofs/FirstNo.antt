@@ -7,7 +7,7 @@ use mathlib.Core.List.{List, [], _∷_, _++_}
 use lib.Dec.{ltb}
 use borrow.Author.Needs.{needs}
 use borrow.Author.Tests.{not-true, not-false}
-use Rattle.complex.specs.Every.{and-right}
+use Rattle.lists.proofs.Every.{and-right}
 use Rattle.cancel.specs.Questions.{Asked, ask, firstNo}
 
 -- a yes is passed over, a no is the result

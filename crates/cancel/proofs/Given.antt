@@ -10,13 +10,13 @@ use lib.ListN.{length}
 use lib.Ieee.{Float}
 use borrow.Author.Needs.{needs}
 use borrow.Author.Tests.{not-true, not-false, le-leb, lt-leb, leb-true}
-use Rattle.complex.specs.Every.{every, every-at, every-not, and-left, and-right}
+use Rattle.lists.specs.Every.{every}
+use Rattle.lists.proofs.Every.{every-at, every-not, and-left, and-right}
 use Rattle.elements.specs.declared.element.KeyedElement.{KeyedElement}
 use Rattle.elements.specs.Found.{elementAt}
 use Rattle.cancel.specs.Questions.{sizeOk, positionOk, elementOk, elementsOk}
-use Rattle.row.specs.Samples.{finiteF}
+use Rattle.float.specs.Size.{finiteF, sized}
 use Rattle.float.proofs.Compared.{yes}
-use Rattle.fits.specs.Interior.{sized}
 use Rattle.fits.specs.Fit.{Timed}
 use Rattle.fits.specs.Lists.{AllTimed}
 use Rattle.cancel.proofs.FirstNo.{is-true, is-false}

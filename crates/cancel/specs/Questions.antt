@@ -7,14 +7,15 @@ use lib.Dec.{leb, eqb}
 use lib.ListN.{length}
 use lib.IntN.{pos}
 use lib.Ieee.{Float, fin, lt, le, eq}
-use Rattle.float.specs.Ops.{_⊘_, absOf, zero, two}
+use Rattle.float.specs.Ops.{_⊘_, zero, two}
+use Rattle.float.specs.Compare.{absOf}
 use Rattle.float.specs.Whole.{floorOf}
-use Rattle.complex.specs.Every.{every}
-use Rattle.row.specs.Samples.{finiteF, allFinite}
+use Rattle.lists.specs.Every.{every}
+use Rattle.float.specs.Size.{finiteF, sized}
+use Rattle.row.specs.Samples.{allFinite}
 use Rattle.row.specs.Window.{rateOk, stepBlocks}
 use Rattle.elements.specs.declared.element.KeyedElement.{KeyedElement}
 use Rattle.elements.specs.Found.{elementAt}
-use Rattle.fits.specs.Interior.{sized}
 
 -- a question with its number, and whether the answer is yes
 pub data Asked : Type 0 where
@@ -30,10 +31,6 @@ firstNo (ask number answer ∷ qs) = cond answer (firstNo qs) number
 -- 2. Is the f32 count even and at most 2,097,152?
 unfoldable pub countOk : ℕ → Bool
 countOk n = eqb (n % 2) 0 && leb n 2097152
-
--- 2 ^ k
-abbrev pub 2^ : ℕ → Float
-2^ k = fin false 1 (pos k)
 
 -- 4. Is the hint or the carrier finite, of size at most fs/2?
 unfoldable pub carrierOk : Float → Float → Bool

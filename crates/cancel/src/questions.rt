@@ -4,7 +4,7 @@ use elements::element_at;
 ghost use mathlib.Core.Path.{_≡_};
 ghost use Prim.Native.Nat.{_+_, _*_, _<_, _≤_};
 ghost use lib.ListN.{length};
-ghost use Rattle.row.specs.Samples.{finiteF};
+ghost use Rattle.float.specs.Size.{finiteF};
 ghost use Rattle.cancel.specs.Questions.{countOk, carrierOk, placesOk, listsOk, workOk, sizeOk, positionOk, elementOk, elementsOk};
 
 // 2: the f32 count is even and at most 2,097,152.
@@ -14,19 +14,11 @@ pub fn count_ok(n: usize) -> bool
     if n % 2 == 0 { n <= 2097152 } else { false }
 }
 
-// x is neither an infinity nor a NaN.
-fn is_number(x: f64) -> bool
-    ensures { λ r. ⌜ r ≡ finiteF x ⌝ }
-{
-    let top = f64::from_bits(0x7ff0_0000_0000_0000);
-    x < top && x > -top
-}
-
 // 4: the hint or the carrier is finite, of size at most fs/2.
 pub fn carrier_ok(fs: f64, hz: f64) -> bool
     ensures { λ r. ⌜ r ≡ carrierOk fs hz ⌝ }
 {
-    if is_number(hz) {
+    if float::finite(hz) {
         float::abs(hz) <= fs / 2.0
     } else {
         false
@@ -63,7 +55,7 @@ pub fn work_ok(b: usize, len: usize) -> bool
 fn size_ok(x: f64) -> bool
     ensures { λ r. ⌜ r ≡ sizeOk x ⌝ }
 {
-    if is_number(x) {
+    if float::finite(x) {
         float::abs(x) <= 1606938044258990275541962092341162602522202993782792835301376.0
     } else {
         false

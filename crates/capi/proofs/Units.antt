@@ -6,7 +6,7 @@ use lib.ListN.{getD}
 use lib.Ieee.{Float, nan}
 use borrow.Author.Needs.{needs}
 use Rattle.complex.specs.declared.value.Complex.{Complex}
-use Rattle.complex.specs.Rows.{zFill-none, zFill-turn0, zFill-done}
+use Rattle.complex.proofs.RowLaws.{zFill-none, zFill-turn0, zFill-done}
 use Rattle.capi.specs.Units.{unitOf, unitAt}
 
 pub unit-is : (angles : List Float) (k : ℕ) (z : Complex) → z ≡ unitOf (getD angles k nan) → z ≡ unitAt angles k

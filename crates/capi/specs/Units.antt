@@ -3,9 +3,9 @@ use Prim.Native.Nat.{ℕ}
 use mathlib.Core.List.{List}
 use lib.ListN.{getD}
 use lib.Ieee.{Float, nan}
-use Rattle.trig.specs.Trig.{sinOf, cosOf}
+use Rattle.trig.specs.Circle.{sinOf, cosOf}
 use Rattle.complex.specs.declared.value.Complex.{Complex}
-use Rattle.complex.specs.Cx.{cNew}
+use Rattle.complex.specs.Value.{cNew}
 
 unfoldable pub unitOf : Float → Complex
 unitOf x = cNew (cosOf x) (sinOf x)

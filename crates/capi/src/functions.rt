@@ -6,11 +6,11 @@ ghost use lib.ListN.{length};
 ghost use Rattle.trig.specs.Sine.{sineTable};
 ghost use Rattle.complex.specs.Rows.{zFill};
 ghost use Rattle.capi.specs.Units.{unitOf, unitAt};
-ghost use Rattle.float.specs.Narrow.{narrowOf};
-ghost use Rattle.trig.specs.Trig.{sinOf, cosOf};
-ghost use Rattle.trig.specs.Arg.{argOf};
-ghost use Rattle.trig.specs.Log.{log10Of};
-ghost use Rattle.complex.specs.Cx.{cNew, cNorm};
+ghost use Rattle.float.specs.Single.{narrowOf};
+ghost use Rattle.trig.specs.Circle.{sinOf, cosOf};
+ghost use Rattle.trig.specs.Argument.{argOf};
+ghost use Rattle.trig.specs.Logarithm.{log10Of};
+ghost use Rattle.complex.specs.Value.{cNew, cNorm};
 
 // The table is made at each call here: many angles are for cancel_cos_sin.
 #[no_mangle]

@@ -10,7 +10,7 @@ use Rattle.float.specs.Ops.{of}
 use Rattle.float.proofs.Bounds.{Bounded, bounded-zero, bounded-more, bounded-shift, bounded-neg, bounded-add, bounded-sub, bounded-mul, Beyond, bounded-div, bounded-mean}
 use Rattle.float.proofs.Amounts.{Amount, amount-root, amount-squares}
 use Rattle.complex.specs.declared.value.Complex.{Complex}
-use Rattle.complex.specs.Cx.{cZero, cAdd, cSub, cMul, cConj, cDiv, cNormSqr, cNorm}
+use Rattle.complex.specs.Value.{cZero, cAdd, cSub, cMul, cConj, cDiv, cNormSqr, cNorm}
 use Rattle.complex.specs.Rows.{cSum}
 
 pub record CBounded (k a : ℕ) (z : Complex) : Type 0 where

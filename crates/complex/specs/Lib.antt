@@ -1,5 +1,3 @@
 -- What the contracts of `complex` and of the crates above cite.
-pub mod Cx
+pub mod Value
 pub mod Rows
-pub mod Fill
-pub mod Every

@@ -12,24 +12,26 @@ use native.Mathlib.Omega.{arith}
 use lib.Dec.{lit≤}
 use lib.Ieee.{Float, nan, lt, le}
 use lib.ListN.{length, getD}
-use Rattle.complex.specs.Every.{and-left, and-right}
+use Rattle.lists.proofs.Every.{and-left, and-right}
 use Rattle.float.specs.Ops.{_⊖_, _⊗_, _⊘_, half, zero}
 use Rattle.float.proofs.Compared.{yes}
 use Rattle.float.proofs.Bounds.{Bounded, bounded-more, bounded-add, bounded-sub, bounded-mul, bounded-div, bounded-whole, bounded-one, beyond-two}
 use Rattle.float.proofs.Amounts.{Amount, amount-half, amount-number, Crosses, share-bounded}
 use Rattle.row.specs.Samples.{Iq}
 use Rattle.row.specs.Window.{Rate, stepOf, blocks}
-use Rattle.row.specs.Amplitudes.{rowOf, rowLength, listOf}
+use Rattle.row.specs.Envelope.{rowOf, rowLength}
+use Rattle.lists.specs.Firsts.{firsts}
 use Rattle.row.proofs.Means.{blocks-short}
 use Rattle.row.proofs.Steps.{step-high}
-use Rattle.row.proofs.Rows.{length-listOf, getD-listOf}
+use Rattle.lists.proofs.Firsts.{length-firsts, getD-firsts}
 use Rattle.row.proofs.Bounds.{Singles, row-amount}
 use Rattle.rank.specs.declared.Percentile.{Percentile}
 use Rattle.rank.specs.declared.Percentile.the-variants.{Value, Nothing}
 use Rattle.rank.specs.Percentile.{percentileOf}
 use Rattle.rank.proofs.Sorted.{percentile-none}
 use Rattle.rank.proofs.Among.{percentile-keeps}
-use Rattle.elements.specs.Find.{EDGE_PERCENTILE, halfOf, thresholdOf, keyDownsAt, elementsAt, keyDownsOf, elementsFound}
+use Rattle.constants.specs.Constants.{EDGE_PERCENTILE}
+use Rattle.elements.specs.Find.{halfOf, thresholdOf, keyDownsAt, elementsAt, keyDownsOf, elementsFound}
 use Rattle.elements.specs.declared.element.KeyedElement.{KeyedElement}
 use Rattle.elements.specs.Crossings.{upward, downward, KeyDown, keyDowns, IsKeyDown}
 use Rattle.elements.proofs.KeyDowns.{members, listed-is, key-down-is}
@@ -103,10 +105,10 @@ elements-bounded row thr step fs j s h each t e m =
 -- ---- those of a recording, at any carrier
 
 module _ (iq : List Float) (fs carrier : Float) (s : Singles iq) (q : Iq iq) where
-  listed-amount : (i : ℕ) → i < length (listOf (rowOf iq fs carrier) (rowLength iq fs)) → Amount (getD (listOf (rowOf iq fs carrier) (rowLength iq fs)) i nan)
+  listed-amount : (i : ℕ) → i < length (firsts (rowOf iq fs carrier) (rowLength iq fs)) → Amount (getD (firsts (rowOf iq fs carrier) (rowLength iq fs)) i nan)
   listed-amount i h =
-      let here : i < rowLength iq fs = subst (λ (n : ℕ). i < n) (length-listOf (rowOf iq fs carrier) (rowLength iq fs)) h in
-      subst Amount (sym (getD-listOf (rowOf iq fs carrier) (rowLength iq fs) i nan here)) (row-amount iq fs carrier i s q here)
+      let here : i < rowLength iq fs = subst (λ (n : ℕ). i < n) (length-firsts (rowOf iq fs carrier) (rowLength iq fs)) h in
+      subst Amount (sym (getD-firsts (rowOf iq fs carrier) (rowLength iq fs) i nan here)) (row-amount iq fs carrier i s q here)
 
   half-amount : (p : Percentile) (thr : Float) → ((v : Float) → p ≡ Value v → Amount v) → halfOf p ≡ Value thr → Amount thr
   half-amount (Value top) thr h e = go (lt zero (half ⊗ top)) e
@@ -120,7 +122,7 @@ module _ (iq : List Float) (fs carrier : Float) (s : Singles iq) (q : Iq iq) whe
   pub threshold-amount : (thr : Float) → thresholdOf iq fs carrier ≡ Value thr → Amount thr
   unfolding thresholdOf
   threshold-amount thr e =
-      let row = listOf (rowOf iq fs carrier) (rowLength iq fs) in
+      let row = firsts (rowOf iq fs carrier) (rowLength iq fs) in
       half-amount (percentileOf row EDGE_PERCENTILE) thr (λ v p. percentile-keeps Amount row EDGE_PERCENTILE v listed-amount p) e
 
   -- a row that has one is not empty
@@ -129,11 +131,11 @@ module _ (iq : List Float) (fs carrier : Float) (s : Singles iq) (q : Iq iq) whe
   some-row thr e = go (eq-zero-or-pos (rowLength iq fs))
     where
       row : List Float
-      row = listOf (rowOf iq fs carrier) (rowLength iq fs)
+      row = firsts (rowOf iq fs carrier) (rowLength iq fs)
 
       go : (rowLength iq fs ≡ 0) ⊎ (0 < rowLength iq fs) → 0 < rowLength iq fs
       go (inl z) =
-          let none : Nothing ≡ percentileOf row EDGE_PERCENTILE = percentile-none row EDGE_PERCENTILE (length-listOf (rowOf iq fs carrier) (rowLength iq fs) ∙ z) in
+          let none : Nothing ≡ percentileOf row EDGE_PERCENTILE = percentile-none row EDGE_PERCENTILE (length-firsts (rowOf iq fs carrier) (rowLength iq fs) ∙ z) in
           let gone : halfOf Nothing ≡ Value thr = ap halfOf none ∙ e in
           let no : _≡_ {A = ℕ} 0 1 = cc in absurd (omega arith)
       go (inr p) = p

@@ -12,25 +12,30 @@ use lib.Seq.{getD-append-add}
 use lib.Ieee.{Float, nan, binary64, add, sub, mul, div, lt, le, eq, ofInt, ofBits, round, toUnsigned, isNan, fits}
 use lib.Ieee.Fits.{round-fits, nan-fits}
 use borrow.Author.Tests.{leb-true, leb-false, ltb-true, ltb-false}
-use Rattle.float.specs.Ops.{_⊘_, of, fraction, half, maxOf}
+use Rattle.float.specs.Ops.{_⊘_, of, fraction, half}
+use Rattle.float.specs.Compare.{maxOf}
 use Rattle.float.specs.Whole.{roundOf, wholeBy}
-use Rattle.complex.specs.Cx.{cNew}
+use Rattle.complex.specs.Value.{cNew}
 use Rattle.complex.specs.Rows.{zAt}
-use Rattle.row.specs.Window.{EDGE_WINDOW_S, stepOf}
-use Rattle.row.specs.Amplitudes.{rowOf, rowLength, listOf}
-use Rattle.row.proofs.Rows.{length-listOf, getD-listOf}
+use Rattle.constants.specs.Constants.{EDGE_WINDOW_S, RISE_S, EDGE_PERCENTILE}
+use Rattle.row.specs.Window.{stepOf}
+use Rattle.row.specs.Envelope.{rowOf, rowLength}
+use Rattle.lists.specs.Firsts.{firsts}
+use Rattle.lists.proofs.Firsts.{length-firsts, getD-firsts}
 use Rattle.rank.specs.declared.Percentile.{Percentile}
 use Rattle.rank.specs.declared.Percentile.the-variants.{Value}
-use Rattle.rank.specs.Order.{minusZero, precedes, countTo, before, upTo}
+use Rattle.rank.specs.Order.{minusZero, precedes, before, upTo}
+use Rattle.lists.specs.Count.{countTo}
 use Rattle.rank.specs.Percentile.{rankOf, percentileOf}
-use Rattle.rank.proofs.Counted.{count-cong}
+use Rattle.lists.proofs.Count.{count-cong}
 use Rattle.rank.proofs.Sorted.{held, rank-lt, percentile-counts}
 use Rattle.elements.specs.declared.element.KeyedElement.{KeyedElement}
 use Rattle.elements.specs.declared.keying.Found.{Found}
 use Rattle.elements.specs.Crossings.{upward, downward, pending, keyDowns}
-use Rattle.elements.specs.Times.{RISE_S, crossedAt, elementOf, isLong, long}
-use Rattle.elements.specs.Found.{those, airtimeOf, listedOf, shortOf, counts, elementsOf, foundTo, elementsTo}
-use Rattle.elements.specs.Find.{EDGE_PERCENTILE, halfOf, thresholdOf, foundAt, elementsAt, foundOf, elementsFound}
+use Rattle.elements.specs.Times.{crossedAt, elementOf, isLong, long}
+use Rattle.lists.specs.Those.{those}
+use Rattle.elements.specs.Found.{airtimeOf, listedOf, shortOf, counts, elementsOf, foundTo, elementsTo}
+use Rattle.elements.specs.Find.{halfOf, thresholdOf, foundAt, elementsAt, foundOf, elementsFound}
 use Rattle.elements.specs.Ones.{isOne, onesOf}
 use Rattle.elements.proofs.KeyDowns.{either}
 use Rattle.elements.proofs.Same.{found-same, elements-same}
@@ -119,8 +124,8 @@ module _ (a e n : ℕ) (few : n ≤ 1048576) where
   row-ones i h =
       rw (step-3000, cycles-3000) (row-real (onesOf a e n) n (bitAt a e) (onesBelow a e) few (bit-small a e) (omega arith) (ones-next a e) (sample-ones a e n) i h)
 
-list-same : (f g : ℕ → Float) (n : ℕ) → ((i : ℕ) → i < n → f i ≡ g i) → listOf f n ≡ listOf g n
-unfolding listOf
+list-same : (f g : ℕ → Float) (n : ℕ) → ((i : ℕ) → i < n → f i ≡ g i) → firsts f n ≡ firsts g n
+unfolding firsts
 list-same f g zero h = refl
 list-same f g (suc n) h = rw (list-same f g n (λ i b. h i (omega arith)), h n (omega arith))
 
@@ -149,35 +154,35 @@ eighth-fits : (m : ℕ) → T (fits binary64 (fraction m 8))
 unfolding fraction
 eighth-fits m = round-fits binary64 false m 8
 
-row-fits : (m : ℕ → ℕ) (n i : ℕ) → T (fits binary64 (getD (listOf (λ k. fraction (m k) 8) n) i nan))
+row-fits : (m : ℕ → ℕ) (n i : ℕ) → T (fits binary64 (getD (firsts (λ k. fraction (m k) 8) n) i nan))
 row-fits m n i =
-    ⊎-elim (λ h. subst (λ (x : Float). T (fits binary64 x)) (sym (getD-listOf (λ k. fraction (m k) 8) n i nan (ltb-true i n h))) (eighth-fits (m i)))
-    (λ h. subst (λ (x : Float). T (fits binary64 x)) (sym (List·getD-eq-default (listOf (λ k. fraction (m k) 8) n) nan (rw (length-listOf (λ k. fraction (m k) 8) n) (ltb-false i n h)))) (nan-fits binary64))
+    ⊎-elim (λ h. subst (λ (x : Float). T (fits binary64 x)) (sym (getD-firsts (λ k. fraction (m k) 8) n i nan (ltb-true i n h))) (eighth-fits (m i)))
+    (λ h. subst (λ (x : Float). T (fits binary64 x)) (sym (List·getD-eq-default (firsts (λ k. fraction (m k) 8) n) nan (rw (length-firsts (λ k. fraction (m k) 8) n) (ltb-false i n h)))) (nan-fits binary64))
     (either (ltb i n))
 
 module _ (m : ℕ → ℕ) (small : (i : ℕ) → m i ≤ 8) (n : ℕ) where
   eights : List Float
-  eights = listOf (λ k. fraction (m k) 8) n
+  eights = firsts (λ k. fraction (m k) 8) n
 
   before-top : before eights top ≡ countTo (λ i. ltb (m i) 8) n
   unfolding before eights
   before-top =
-      rw (length-listOf (λ k. fraction (m k) 8) n)
+      rw (length-firsts (λ k. fraction (m k) 8) n)
       (count-cong (λ i. precedes (getD eights i nan) top) (λ i. ltb (m i) 8) n
-      (λ i h. ap (λ (x : Float). precedes x top) (getD-listOf (λ k. fraction (m k) 8) n i nan h) ∙ below-top (m i) (small i)))
+      (λ i h. ap (λ (x : Float). precedes x top) (getD-firsts (λ k. fraction (m k) 8) n i nan h) ∙ below-top (m i) (small i)))
 
   all-upto : upTo eights top ≡ n
   unfolding upTo eights
   all-upto =
-      rw (length-listOf (λ k. fraction (m k) 8) n)
+      rw (length-firsts (λ k. fraction (m k) 8) n)
       (count-cong (λ i. not (precedes top (getD eights i nan))) (λ i. true) n
-      (λ i h. ap (λ (x : Float). not (precedes top x)) (getD-listOf (λ k. fraction (m k) 8) n i nan h) ∙ upto-top (m i) (small i))
+      (λ i h. ap (λ (x : Float). not (precedes top x)) (getD-firsts (λ k. fraction (m k) 8) n i nan h) ∙ upto-top (m i) (small i))
       ∙ count-all n)
 
   percentile-top : 0 < n → countTo (λ i. ltb (m i) 8) n ≤ rankOf n EDGE_PERCENTILE → percentileOf eights EDGE_PERCENTILE ≡ Value top
   unfolding eights
   percentile-top some enough =
-      let size = length-listOf (λ k. fraction (m k) 8) n in
+      let size = length-firsts (λ k. fraction (m k) 8) n in
       percentile-counts eights EDGE_PERCENTILE top (held eights (row-fits m n)) (eighth-fits 8) (rw size some) (rw (size, before-top) enough)
       (rw (size, all-upto) (rank-lt n EDGE_PERCENTILE some))
 
@@ -197,7 +202,7 @@ module _ (a e n : ℕ) (few : n ≤ 1048576) (some : 8 ≤ n) (enough : countTo 
   unfolding thresholdOf eights
   threshold-ones =
       ap (λ (l : List Float). halfOf (percentileOf l EDGE_PERCENTILE))
-      (ap (λ (b : ℕ). listOf (rowOf iq (of 3000) (of 0)) (b - 7)) (blocks-ones a e n few)
+      (ap (λ (b : ℕ). firsts (rowOf iq (of 3000) (of 0)) (b - 7)) (blocks-ones a e n few)
       ∙ list-same (rowOf iq (of 3000) (of 0)) (eighths a e) (n - 7) (λ i h. row-ones a e n few i (omega arith)))
       ∙ ap halfOf (percentile-top (inEight a e) (few-ones a e) (n - 7) (omega arith) enough) ∙ half-top
 

@@ -12,12 +12,13 @@ use lib.Seq.{getD-append-seam}
 use lib.Dec.{ltb}
 use borrow.Author.Tests.{ltb-true, ltb-false}
 use lib.Ieee.{Float, lt, le, isNan}
-use Rattle.complex.specs.Every.{and-left, and-right}
+use Rattle.lists.proofs.Every.{and-left, and-right}
 use Rattle.elements.specs.declared.keying.Rising.{Rising}
 use Rattle.elements.specs.declared.keying.Rising.the-variants.{At, Nothing}
 use Rattle.elements.specs.Crossings.{upward, downward, KeyDown, keyDown, pending, ended, keyDowns, IsKeyDown}
 use Rattle.elements.specs.Times.{long}
-use Rattle.elements.specs.Found.{those, listedOf, shortOf, counts, foundTo}
+use Rattle.lists.specs.Those.{those}
+use Rattle.elements.specs.Found.{listedOf, shortOf, counts, foundTo}
 use Rattle.elements.proofs.Compared.{apart, total, reached-is}
 use Rattle.elements.proofs.Keyed.{Held, one-way, pending-up, pending-down, pending-same, keys-down, keys-same, held}
 

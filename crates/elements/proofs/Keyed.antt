@@ -8,17 +8,19 @@ use mathlib.Core.Bool.{Bool, true, false, not, cond, true≢false}
 use mathlib.Core.List.{List, [], _∷_, _++_, append-nil}
 use lib.ListN.{length, length-append, length-map}
 use lib.Ieee.{Float, lt, le}
-use Rattle.complex.specs.Every.{and-left}
+use Rattle.lists.proofs.Every.{and-left}
 use Rattle.elements.specs.declared.element.KeyedElement.{KeyedElement}
 use Rattle.elements.specs.declared.keying.Rising.{Rising}
 use Rattle.elements.specs.declared.keying.Rising.the-variants.{At, Nothing}
 use Rattle.elements.specs.declared.keying.Found.{Found}
 use Rattle.elements.specs.Crossings.{upward, downward, KeyDown, keyDown, pending, ended, keyDowns}
 use Rattle.elements.specs.Times.{elementOf, isLong, long}
-use Rattle.elements.specs.Found.{those, airtimeOf, listedOf, shortOf, counts, elementsOf, foundTo, elementsTo, none, putElement, stored, storedFrom}
-use Rattle.elements.specs.Counting.{foundPlus, oneListed, oneShort, Room, Kept}
+use Rattle.lists.specs.Those.{those}
+use Rattle.elements.specs.Found.{airtimeOf, listedOf, shortOf, counts, elementsOf, foundTo, elementsTo, none, putElement, stored, storedFrom}
+use Rattle.elements.specs.Inner.{foundPlus, oneListed, oneShort, Room, Kept}
 use Rattle.elements.proofs.Compared.{apart}
-use Rattle.elements.proofs.Lists.{airtime-append, airtime-steps, those-shorter, those-less, counts-append, elements-append, length-stored, stored-append}
+use Rattle.elements.proofs.Lists.{airtime-append, airtime-steps, those-less, counts-append, elements-append, length-stored, stored-append}
+use Rattle.lists.proofs.Those.{those-shorter}
 
 -- no crossing is both upward and downward
 pub one-way : (row : ℕ → Float) (thr : Float) (i : ℕ) → upward row thr i ≡ true → downward row thr i ≡ false

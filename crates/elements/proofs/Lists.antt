@@ -11,17 +11,10 @@ use lib.Ieee.{Float}
 use Rattle.elements.specs.declared.element.KeyedElement.{KeyedElement}
 use Rattle.elements.specs.Crossings.{KeyDown}
 use Rattle.elements.specs.Times.{elementOf, long}
-use Rattle.elements.specs.Found.{those, airtimeOf, listedOf, shortOf, counts, elementsOf, putElement, storedFrom}
-use Rattle.elements.specs.Counting.{foundPlus}
-
-cond-append : (t : Bool) (k : KeyDown) (a b : List KeyDown) → cond t (k ∷ (a ++ b)) (a ++ b) ≡ cond t (k ∷ a) a ++ b
-cond-append true k a b = refl
-cond-append false k a b = refl
-
-pub those-append : (p : KeyDown → Bool) (a b : List KeyDown) → those p (a ++ b) ≡ those p a ++ those p b
-unfolding those
-those-append p [] b = refl
-those-append p (k ∷ a) b = rw (those-append p a b) (cond-append (p k) k (those p a) (those p b))
+use Rattle.lists.specs.Those.{those}
+use Rattle.elements.specs.Found.{airtimeOf, listedOf, shortOf, counts, elementsOf, putElement, storedFrom}
+use Rattle.elements.specs.Inner.{foundPlus}
+use Rattle.lists.proofs.Those.{those-append, those-shorter}
 
 pub airtime-append : (step : ℕ) (a b : List KeyDown) → airtimeOf step (a ++ b) ≡ airtimeOf step a + airtimeOf step b
 unfolding airtimeOf
@@ -33,15 +26,6 @@ pub airtime-steps : (step : ℕ) (ks : List KeyDown) → airtimeOf step ks ≡ a
 unfolding airtimeOf
 airtime-steps step [] = omega arith
 airtime-steps step (k ∷ ks) = omega (arith, airtime-steps step ks, add-mul ((k .down - k .up) * 1) (airtimeOf 1 ks) step)
-
-cond-shorter : (t : Bool) (k : KeyDown) (a : List KeyDown) (n : ℕ) → length a ≤ n → length (cond t (k ∷ a) a) ≤ suc n
-cond-shorter true k a n h = omega arith
-cond-shorter false k a n h = omega arith
-
-pub those-shorter : (p : KeyDown → Bool) (ks : List KeyDown) → length (those p ks) ≤ length ks
-unfolding those
-those-shorter p [] = omega arith
-those-shorter p (k ∷ ks) = cond-shorter (p k) k (those p ks) (length ks) (those-shorter p ks)
 
 cond-less : (t : Bool) (step : ℕ) (k : KeyDown) (a : List KeyDown) (n : ℕ)
     → airtimeOf step a ≤ n → airtimeOf step (cond t (k ∷ a) a) ≤ (k .down - k .up) * step + n

@@ -8,7 +8,7 @@ use mathlib.Core.List.{List, List·Memᴰ, Memᴰ·map}
 use lib.ListN.{length, length-map}
 use lib.Ieee.{Float}
 use Rattle.row.specs.Window.{stepOf, stepBlocks}
-use Rattle.row.specs.Amplitudes.{rowOf, rowLength}
+use Rattle.row.specs.Envelope.{rowOf, rowLength}
 use Rattle.rank.specs.declared.Percentile.{Percentile}
 use Rattle.rank.specs.declared.Percentile.the-variants.{Value, Nothing}
 use Rattle.elements.specs.Crossings.{KeyDown, keyDowns}

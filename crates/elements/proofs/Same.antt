@@ -9,7 +9,8 @@ use lib.Ieee.{Float}
 use Rattle.elements.specs.declared.element.KeyedElement.{KeyedElement}
 use Rattle.elements.specs.Crossings.{upward, downward, KeyDown, pending, keyDowns}
 use Rattle.elements.specs.Times.{crossedAt, elementOf, long}
-use Rattle.elements.specs.Found.{those, listedOf, shortOf, counts, elementsOf, foundTo, elementsTo}
+use Rattle.lists.specs.Those.{those}
+use Rattle.elements.specs.Found.{listedOf, shortOf, counts, elementsOf, foundTo, elementsTo}
 use Rattle.elements.proofs.KeyDowns.{members, those-are}
 
 those-same : (p q : KeyDown → Bool) (ks : List KeyDown) → ((k : KeyDown) → List·Memᴰ k ks → p k ≡ q k) → those p ks ≡ those q ks

@@ -6,19 +6,20 @@ use native.Mathlib.Omega.{arith}
 use mathlib.Core.Path.{_≡_, refl, sym, ap, _∙_}
 use mathlib.Core.List.{List}
 use lib.Ieee.{Float, binary64, add, sub, mul, div, rem, neg, lt, le, ofInt, ofBits, round, toSigned}
-use Rattle.float.specs.Ops.{_⊕_, _⊖_, _⊗_, of, one, eight, fraction, absOf}
+use Rattle.float.specs.Ops.{_⊕_, _⊖_, _⊗_, of, one, eight, fraction}
+use Rattle.float.specs.Compare.{absOf}
 use Rattle.float.specs.Whole.{roundOf}
-use Rattle.float.specs.Rem.{remEuclidOf}
-use Rattle.float.specs.Sqrt.{sqrtOf}
+use Rattle.float.specs.Remainder.{remEuclidOf}
+use Rattle.float.specs.Root.{sqrtOf}
 use Rattle.float.proofs.Counts.{whole-add, whole-sub, whole-mul}
 use Rattle.trig.specs.Constants.{TAU, PI}
 use Rattle.trig.specs.Sine.{sineTable}
-use Rattle.trig.specs.Trig.{sineAt, within, sinOf, cosOf}
+use Rattle.trig.specs.Circle.{sineAt, within, sinOf, cosOf}
 use Rattle.complex.specs.declared.value.Complex.{Complex}
-use Rattle.complex.specs.Cx.{cNew, cZero, cAdd, cSub, cMul, cConj, cDiv, cNorm}
+use Rattle.complex.specs.Value.{cNew, cZero, cAdd, cSub, cMul, cConj, cDiv, cNorm}
 use Rattle.complex.specs.Rows.{zAt, cSum}
 use Rattle.row.specs.Blocks.{rotorOf, derot, meanFrom, blockMean}
-use Rattle.row.specs.Amplitudes.{runOf, amplitude}
+use Rattle.row.specs.Envelope.{runOf, amplitude}
 
 -- a whole number as a complex one
 abbrev pub real : ℕ → Complex

@@ -9,25 +9,24 @@ use lib.ListN.{length, getD, take, drop}
 use lib.Ieee.{Float, nan, lt, ofBits, round}
 use Rattle.float.specs.Ops.{_⊗_, _⊘_, bits, fraction, half, zero}
 use Rattle.complex.specs.Rows.{zFill}
-use Rattle.complex.specs.Fill.{fill}
+use Rattle.lists.specs.Fill.{fill}
 use Rattle.row.specs.Window.{Rate, stepOf, windowOf, samples, blocks, stepBlocks}
 use Rattle.row.specs.Samples.{Iq}
 use Rattle.row.specs.Blocks.{blockMean}
-use Rattle.row.specs.Amplitudes.{amplitude, rowOf, rowLength, listOf}
+use Rattle.row.specs.Envelope.{amplitude, rowOf, rowLength}
+use Rattle.lists.specs.Firsts.{firsts}
 use Rattle.row.proofs.Steps.{step-low, step-high}
-use Rattle.row.proofs.Rows.{length-listOf, getD-listOf, row-part, row-is, row-none, row-some}
+use Rattle.lists.proofs.Firsts.{length-firsts, getD-firsts}
+use Rattle.row.proofs.Rows.{row-part, row-is, row-none, row-some}
 use Rattle.rank.specs.declared.Percentile.{Percentile}
 use Rattle.rank.specs.declared.Percentile.the-variants.{Value, Nothing}
 use Rattle.rank.specs.Percentile.{percentileOf}
 use Rattle.elements.specs.declared.keying.Found.{Found}
 use Rattle.elements.specs.Found.{foundTo, elementsTo, none, stored, storedFrom}
-use Rattle.elements.specs.Find.{EDGE_PERCENTILE, halfOf, thresholdOf, foundOf, elementsFound}
+use Rattle.constants.specs.Constants.{EDGE_PERCENTILE}
+use Rattle.elements.specs.Find.{halfOf, thresholdOf, foundOf, elementsFound}
 use Rattle.elements.proofs.Same.{found-same, elements-same}
-
--- the literal of the code
-pub EDGE_PERCENTILE-bits : bits 0x3fef_5c28_f5c2_8f5c ≡ EDGE_PERCENTILE
-unfolding EDGE_PERCENTILE fraction ofBits round
-EDGE_PERCENTILE-bits = refl
+use Rattle.constants.proofs.Bits.{edge-percentile-bits}
 
 -- ---- the recording has a window of samples: how many blocks there are
 pub record Entered (iq : List Float) (fs : Float) (step : ℕ) : Type 0 where
@@ -59,7 +58,7 @@ module _ (iq : List Float) (fs carrier : Float) where
   pub row-read : (step : ℕ) (w end v : List Float) → step ≡ stepOf fs
       → end ≡ fill (zFill w 0 (blockMean iq (carrier ⊘ fs) step) (blocks iq step)) (2 * blocks iq step) (amplitude (blockMean iq (carrier ⊘ fs) step)) (blocks iq step - 7)
       → v ≡ take (2 * blocks iq step + (blocks iq step - 7) - 2 * blocks iq step) (drop (2 * blocks iq step) end) → 3 * blocks iq step ≤ length w
-      → v ≡ listOf (rowOf iq fs carrier) (rowLength iq fs)
+      → v ≡ firsts (rowOf iq fs carrier) (rowLength iq fs)
   row-read step w end v e filled part room =
       let size : 2 * blocks iq step + (blocks iq step - 7) - 2 * blocks iq step ≡ blocks iq step - 7 = omega arith in
       rw (← row-is iq fs carrier, ← e) ((rw size at part) ∙ row-part w end (blockMean iq (carrier ⊘ fs) step) (blocks iq step) filled room)
@@ -70,15 +69,15 @@ module _ (iq : List Float) (fs carrier : Float) where
   without l e = (rw e, rw e)
 
   pub way-short : (l : List Float) (step : ℕ) → step ≡ stepOf fs → length iq / 2 < 8 * step → answered none l l
-  unfolding thresholdOf listOf percentileOf
+  unfolding thresholdOf firsts percentileOf
   way-short l step e h =
       let few : samples iq < windowOf fs = rw (← e) h in
       without l (rw (row-none iq fs few))
 
-  module _ (v : List Float) (is : v ≡ listOf (rowOf iq fs carrier) (rowLength iq fs)) (p : Percentile) (asked : p ≡ percentileOf v (bits 0x3fef_5c28_f5c2_8f5c)) where
+  module _ (v : List Float) (is : v ≡ firsts (rowOf iq fs carrier) (rowLength iq fs)) (p : Percentile) (asked : p ≡ percentileOf v (bits 0x3fef_5c28_f5c2_8f5c)) where
     threshold-is : thresholdOf iq fs carrier ≡ halfOf p
     unfolding thresholdOf
-    threshold-is = rw (← is, ← EDGE_PERCENTILE-bits, ← asked)
+    threshold-is = rw (← is, edge-percentile-bits, ← asked)
 
     pub way-none : (l : List Float) → p ≡ Nothing → answered none l l
     way-none l e = without l (rw (threshold-is, e))
@@ -91,16 +90,16 @@ module _ (iq : List Float) (fs carrier : Float) where
         → answered r l out
     unfolding foundOf elementsFound
     way-found l out top step r s some e high h =
-        let size : length v ≡ rowLength iq fs = ap length is ∙ length-listOf (rowOf iq fs carrier) (rowLength iq fs) in
+        let size : length v ≡ rowLength iq fs = ap length is ∙ length-firsts (rowOf iq fs carrier) (rowLength iq fs) in
         let last : length v - 1 ≡ rowLength iq fs - 1 = omega arith in
         let same : (i : ℕ) → i ≤ length v - 1 → getD v i nan ≡ rowOf iq fs carrier i =
-        λ i b. ap (λ (m : List Float). getD m i nan) is ∙ getD-listOf (rowOf iq fs carrier) (rowLength iq fs) i nan (omega arith) in (
+        λ i b. ap (λ (m : List Float). getD m i nan) is ∙ getD-firsts (rowOf iq fs carrier) (rowLength iq fs) i nan (omega arith) in (
           rw (threshold-is, e, high, ← last, ← s) (h .0 ∙ found-same (λ k. getD v k nan) (rowOf iq fs carrier) (half ⊗ top) (length v - 1) same step fs),
           rw (threshold-is, e, high, ← last, ← s)
               (h .1 ∙ ap (stored l) (elements-same (λ k. getD v k nan) (rowOf iq fs carrier) (half ⊗ top) (length v - 1) same step fs)),
         )
 
-  pub row-size : (step : ℕ) (v : List Float) → v ≡ listOf (rowOf iq fs carrier) (rowLength iq fs) → Entered iq fs step → length v ≡ length iq / 2 / step - 7
+  pub row-size : (step : ℕ) (v : List Float) → v ≡ firsts (rowOf iq fs carrier) (rowLength iq fs) → Entered iq fs step → length v ≡ length iq / 2 / step - 7
   row-size step v is n =
       let same = n .same in
-      ap length is ∙ length-listOf (rowOf iq fs carrier) (rowLength iq fs) ∙ (omega arith)
+      ap length is ∙ length-firsts (rowOf iq fs carrier) (rowLength iq fs) ∙ (omega arith)

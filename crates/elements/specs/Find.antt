@@ -5,7 +5,8 @@ use mathlib.Core.List.{List, []}
 use lib.Ieee.{Float, lt}
 use Rattle.float.specs.Ops.{_⊗_, fraction, half, zero}
 use Rattle.row.specs.Window.{stepOf}
-use Rattle.row.specs.Amplitudes.{rowOf, rowLength, listOf}
+use Rattle.row.specs.Envelope.{rowOf, rowLength}
+use Rattle.lists.specs.Firsts.{firsts}
 use Rattle.rank.specs.declared.Percentile.{Percentile}
 use Rattle.rank.specs.declared.Percentile.the-variants.{Value, Nothing}
 use Rattle.rank.specs.Percentile.{percentileOf}
@@ -13,10 +14,7 @@ use Rattle.elements.specs.declared.element.KeyedElement.{KeyedElement}
 use Rattle.elements.specs.declared.keying.Found.{Found}
 use Rattle.elements.specs.Crossings.{KeyDown, keyDowns}
 use Rattle.elements.specs.Found.{foundTo, elementsTo, none}
-
--- EDGE_PERCENTILE: 0.98
-unfoldable pub EDGE_PERCENTILE : Float
-EDGE_PERCENTILE = fraction 98 100
+use Rattle.constants.specs.Constants.{EDGE_PERCENTILE}
 
 -- half of a percentile, if it is positive
 abbrev pub halfOf : Percentile → Percentile
@@ -25,7 +23,7 @@ halfOf Nothing = Nothing
 
 -- Threshold: half the 98th percentile. There is none for an empty row or where that is not positive.
 unfoldable pub thresholdOf : List Float → Float → Float → Percentile
-thresholdOf iq fs carrier = halfOf (percentileOf (listOf (rowOf iq fs carrier) (rowLength iq fs)) EDGE_PERCENTILE)
+thresholdOf iq fs carrier = halfOf (percentileOf (firsts (rowOf iq fs carrier) (rowLength iq fs)) EDGE_PERCENTILE)
 
 module _ (row : ℕ → Float) (last step : ℕ) (fs : Float) where
   -- of a row whose last position is `last`, at a threshold; without one there is no key-down

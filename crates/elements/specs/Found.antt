@@ -9,11 +9,7 @@ use Rattle.elements.specs.declared.element.KeyedElement.{KeyedElement}
 use Rattle.elements.specs.declared.keying.Found.{Found}
 use Rattle.elements.specs.Crossings.{KeyDown, keyDowns}
 use Rattle.elements.specs.Times.{elementOf, long}
-
--- those of a list that pass a test, in order
-unfoldable pub those : (KeyDown → Bool) → List KeyDown → List KeyDown
-those p [] = []
-those p (k ∷ ks) = cond (p k) (k ∷ those p ks) (those p ks)
+use Rattle.lists.specs.Those.{those}
 
 -- Airtime: the sum of (down − up) × step
 unfoldable pub airtimeOf : ℕ → List KeyDown → ℕ

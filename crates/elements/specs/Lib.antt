@@ -2,6 +2,6 @@
 pub mod Crossings
 pub mod Times
 pub mod Found
-pub mod Counting
+pub mod Inner
 pub mod Find
 pub mod Ones

@@ -6,6 +6,7 @@ use lib.Ieee.{Float, le}
 use Rattle.float.specs.Ops.{_⊕_, _⊖_, _⊗_, _⊘_, of, one, two, fraction}
 use Rattle.elements.specs.declared.element.KeyedElement.{KeyedElement}
 use Rattle.elements.specs.Crossings.{KeyDown}
+use Rattle.constants.specs.Constants.{RISE_S}
 
 -- amplitude i covers the window = 8 × step samples from i × step on: their centre
 abbrev pub centre : ℕ → ℕ → Float
@@ -19,10 +20,6 @@ crossedAt row thr step i = centre step (i - 1) ⊕ (thr ⊖ row (i - 1)) ⊘ (ro
 unfoldable pub elementOf : (ℕ → Float) → Float → ℕ → KeyDown → KeyedElement
 elementOf row thr step k =
     record { start = crossedAt row thr step (k .up); end = crossedAt row thr step (k .down); up = of (k .up); down = of (k .down) }
-
--- RISE_S: 5e-3
-unfoldable pub RISE_S : Float
-RISE_S = fraction 5 1000
 
 -- Listed: end − start ≥ RISE_S × fs as computed; otherwise short.
 unfoldable pub isLong : Float → KeyedElement → Bool

@@ -1,6 +1,7 @@
 // The elements of a recording at a carrier.
 use crate::keying::Found;
 use crate::keying::scan;
+use constants::EDGE_PERCENTILE;
 use rank::Percentile;
 use rank::select::percentile;
 use row::amplitudes;
@@ -13,8 +14,6 @@ ghost use Rattle.row.specs.Window.{Rate, stepBlocks};
 ghost use Rattle.row.specs.Samples.{Iq};
 ghost use Rattle.elements.specs.Found.{stored};
 ghost use Rattle.elements.specs.Find.{foundOf, elementsFound};
-
-const EDGE_PERCENTILE: f64 = 0.98;
 
 // Rust: find_elements, which answers the elements as a list of its own and counts nothing. The row lies in the work
 // slice, behind the block means.

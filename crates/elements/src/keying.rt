@@ -1,6 +1,7 @@
 // The walk along a row of amplitudes.
 use crate::element::KeyedElement;
 use crate::element::put_element;
+use constants::RISE_S;
 use float::whole::exact;
 ghost use mathlib.Core.Path.{_≡_};
 ghost use Prim.Native.Nat.{_+_, _-_, _*_, _/_, _≤_, _<_};
@@ -10,9 +11,7 @@ ghost use lib.Ieee.{nan};
 ghost use Rattle.elements.specs.Crossings.{upward, downward, keyDown, pending, ended};
 ghost use Rattle.elements.specs.Times.{crossedAt, elementOf, isLong};
 ghost use Rattle.elements.specs.Found.{counts, foundTo, elementsOf, elementsTo, stored, storedFrom};
-ghost use Rattle.elements.specs.Counting.{Room, Kept, oneListed, oneShort, foundPlus};
-
-pub const RISE_S: f64 = 5e-3;
+ghost use Rattle.elements.specs.Inner.{Room, Kept, oneListed, oneShort, foundPlus};
 
 // The position of the upward crossing that no downward one has followed yet. The Rust keeps its time.
 pub enum Rising {

@@ -9,21 +9,15 @@ use lib.ListN.{length, getD, set, take, length-set}
 use lib.Seq.{getD-set-same, getD-set-other, take-suc, take-length}
 use lib.Ieee.{Float, nan}
 use Rattle.complex.specs.declared.value.Complex.{Complex}
-use Rattle.complex.specs.Rows.{zAt, zSet, zAt-zSet-same}
+use Rattle.complex.specs.Rows.{zAt, zSet}
+use Rattle.complex.proofs.RowLaws.{zAt-zSet-same}
 use Rattle.elements.specs.declared.element.KeyedElement.{KeyedElement}
 use Rattle.elements.specs.Found.{elementAt, putElement, stored}
 use Rattle.elements.proofs.Stored.{element-put, stored-read}
 use Rattle.fits.specs.declared.fit.ElementFit.{ElementFit}
-use Rattle.fits.specs.Lists.{firsts, elementsIn, fitAt, putFit, fitsIn, fitsFrom, storedFits}
-
--- a row that agrees with a list has the list as its first numbers
-firsts-take : {A : Type 0} (f : ℕ → A) (l : List A) (d : A) (n : ℕ) → n ≤ length l → ((k : ℕ) → k < n → f k ≡ getD l k d) → firsts f n ≡ take n l
-unfolding firsts
-firsts-take f l d zero h e = refl
-firsts-take f l d (suc n) h e = rw (firsts-take f l d n (omega arith) (λ k b. e k (omega arith)), e n (omega arith), take-suc l n d h)
-
-firsts-all : {A : Type 0} (f : ℕ → A) (l : List A) (d : A) → ((k : ℕ) → k < length l → f k ≡ getD l k d) → firsts f (length l) ≡ l
-firsts-all f l d e = firsts-take f l d (length l) (le-refl (length l)) e ∙ take-length l
+use Rattle.lists.specs.Firsts.{firsts}
+use Rattle.fits.specs.Lists.{elementsIn, fitAt, putFit, fitsIn, fitsFrom, storedFits}
+use Rattle.lists.proofs.Firsts.{firsts-all}
 
 pub elements-back : (l : List Float) (es : List KeyedElement) → 4 * length es ≤ length l → elementsIn (stored l es) (length es) ≡ es
 unfolding elementsIn

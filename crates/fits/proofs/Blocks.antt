@@ -11,13 +11,14 @@ use lib.Ieee.{Float, nan, inf, fin, binary64, lt, le, eq, isNan, mul, div, round
 use lib.Ieee.Bits.{is-true}
 use lib.Ieee.Fits.{and-l, and-r}
 use lib.Ieee.Positive.{positive, mul-mono}
-use Rattle.float.specs.Ops.{_⊗_, of, fraction, maxOf}
+use Rattle.float.specs.Ops.{_⊗_, of, fraction}
+use Rattle.float.specs.Compare.{maxOf}
 use Rattle.float.specs.Whole.{roundOf, wholeBy}
 use Rattle.float.proofs.Compared.{yes, no}
 use Rattle.float.proofs.Monotone.{lt-le, not-lt-le, round-mono}
-use Rattle.row.specs.Window.{Rate, rateOk, EDGE_WINDOW_S, stepOf}
+use Rattle.row.specs.Window.{Rate, rateOk, stepOf}
+use Rattle.constants.specs.Constants.{EDGE_WINDOW_S, SLOPE_BLOCK_S}
 use Rattle.row.proofs.Steps.{rate-is, rate-pos, max-low, max-mono, step-mono}
-use Rattle.fits.specs.Constants.{SLOPE_BLOCK_S}
 use Rattle.fits.specs.Interior.{blockOf}
 
 pub block-some : (fs : Float) → 1 ≤ blockOf fs
@@ -26,7 +27,7 @@ block-some fs = max-low (roundOf (SLOPE_BLOCK_S ⊗ fs))
 
 -- a block grows with the rate
 block-pos : T (positive SLOPE_BLOCK_S) × T (le SLOPE_BLOCK_S SLOPE_BLOCK_S)
-unfolding SLOPE_BLOCK_S round le lt eq
+unfolding SLOPE_BLOCK_S fraction round le lt eq
 block-pos = (tt, tt)
 
 block-mono : (x y : Float) → Rate x → Rate y → T (le x y) → blockOf x ≤ blockOf y

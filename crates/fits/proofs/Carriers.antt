@@ -8,15 +8,13 @@ use mathlib.Core.List.{List, [], _∷_, _++_}
 use borrow.Author.Needs.{needs}
 use lib.Ieee.{Float, lt}
 use Rattle.float.specs.Ops.{_⊕_, _⊗_, _⊘_, bits, zero}
-use Rattle.trig.specs.Constants.{tau-bits}
+use Rattle.trig.proofs.Bits.{tau-bits}
 use Rattle.fits.specs.declared.fit.ElementFit.{ElementFit}
-use Rattle.fits.specs.Lists.{firsts, fitAt, fitsIn}
-use Rattle.fits.specs.Carrier.{sumOver, fitWeight, weightedSlope, meanSlope}
-
-over-more : (figure : ElementFit → Float) (start : Float) (fs : List ElementFit) (f : ElementFit) → sumOver figure start (fs ++ (f ∷ [])) ≡ sumOver figure start fs ⊕ figure f
-unfolding sumOver
-over-more figure start [] f = refl
-over-more figure start (e ∷ fs) f = over-more figure (start ⊕ figure e) fs f
+use Rattle.lists.specs.Firsts.{firsts}
+use Rattle.fits.specs.Lists.{fitAt, fitsIn}
+use Rattle.lists.specs.Sums.{sumOver}
+use Rattle.fits.specs.Carrier.{fitWeight, weightedSlope, meanSlope}
+use Rattle.lists.proofs.Sums.{over-more}
 
 -- A loop over the fits of a list, at place k: before it, a turn of it, and after it.
 module _ (figure : ElementFit → Float) (l : List Float) where

@@ -11,36 +11,39 @@ use lib.Dec.{leb}
 use lib.ListN.{length, getD, length-append, List·getD-append}
 use lib.Seq.{getD-append-add}
 use lib.Ieee.{Float, nan, binary64, add, sub, mul, div, rem, neg, lt, le, ofInt, ofBits, round, toSigned, toUnsigned, eq, isNan}
-use Rattle.float.specs.Ops.{_⊘_, of, zero as nought, one, fraction, absOf, maxOf}
+use Rattle.float.specs.Ops.{_⊘_, of, zero as nought, one, fraction}
+use Rattle.float.specs.Compare.{absOf, maxOf}
 use Rattle.float.specs.Whole.{floorOf, ceilOf, roundOf, wholeBy}
-use Rattle.float.specs.Sqrt.{sqrtOf}
-use Rattle.float.specs.Rem.{remEuclidOf}
+use Rattle.float.specs.Root.{sqrtOf}
+use Rattle.float.specs.Remainder.{remEuclidOf}
 use Rattle.trig.specs.Constants.{TAU, PI}
 use Rattle.trig.specs.Sine.{sineTable}
-use Rattle.trig.specs.Trig.{sineAt, within, sinOf, cosOf}
-use Rattle.trig.specs.Arg.{arctanOf, argOf}
+use Rattle.trig.specs.Circle.{sineAt, within, sinOf, cosOf}
+use Rattle.trig.specs.Argument.{arctanOf, argOf}
 use Rattle.trig.specs.Arctan.{arctanTable}
 use Rattle.complex.specs.declared.value.Complex.{Complex}
-use Rattle.complex.specs.Cx.{cNew, cZero, cAdd, cMul, cConj, cNorm, cArg, cDiv, cPolar}
-use Rattle.complex.specs.Rows.{zAt, cSum, cSum-cong}
+use Rattle.complex.specs.Value.{cNew, cZero, cAdd, cMul, cConj, cNorm, cArg, cDiv, cPolar}
+use Rattle.complex.specs.Rows.{zAt, cSum}
+use Rattle.complex.proofs.RowLaws.{cSum-cong}
 use Rattle.row.specs.Window.{samples}
 use Rattle.row.specs.Blocks.{rotorOf, derot, meanFrom}
 use Rattle.elements.proofs.Unturned.{real, rotor-unturned}
 use Rattle.elements.specs.declared.element.KeyedElement.{KeyedElement}
 use Rattle.elements.specs.Ones.{isOne, onesOf}
 use Rattle.elements.specs.Crossings.{upward, downward, pending, keyDowns}
-use Rattle.elements.specs.Times.{RISE_S, crossedAt, elementOf, isLong, long}
-use Rattle.elements.specs.Found.{those, airtimeOf, listedOf, shortOf, counts, elementsOf, foundTo, elementsTo}
-use Rattle.elements.specs.Find.{EDGE_PERCENTILE, elementsFound}
+use Rattle.constants.specs.Constants.{RISE_S, EDGE_PERCENTILE, MIN_INTERIOR_S, SLOPE_BLOCK_S}
+use Rattle.elements.specs.Times.{crossedAt, elementOf, isLong, long}
+use Rattle.lists.specs.Those.{those}
+use Rattle.elements.specs.Found.{airtimeOf, listedOf, shortOf, counts, elementsOf, foundTo, elementsTo}
+use Rattle.elements.specs.Find.{elementsFound}
 use Rattle.elements.proofs.Edges.{finds, edges as ones}
-use Rattle.rank.specs.Order.{countTo}
+use Rattle.lists.specs.Count.{countTo}
 use Rattle.rank.specs.Percentile.{rankOf}
-use Rattle.fits.specs.Constants.{MIN_INTERIOR_S, SLOPE_BLOCK_S}
 use Rattle.fits.specs.declared.interior.Interior.the-variants.{Inside, Nothing}
 use Rattle.fits.specs.Interior.{loOf, hiOf, minLen, unfit, interiorOf, blockOf}
 use Rattle.fits.specs.declared.fit.ElementFit.{ElementFit}
 use Rattle.fits.specs.declared.fit.Fit.the-variants.{Fitted, Skipped}
-use Rattle.fits.specs.Sums.{fSum}
+use Rattle.lists.specs.Sums.{fSum}
 use Rattle.fits.specs.Line.{timeOf, lineSlope}
 use Rattle.fits.specs.Slope.{slopeMean, phaseOn, phaseOf, slopeOf}
 use Rattle.fits.specs.Gain.{refSample, hann, tiltOf, gainSum, hannSum}

@@ -10,7 +10,7 @@ use lib.Ieee.{Float, le}
 use lib.Ieee.Nearest.{div-mono}
 use Rattle.float.specs.Ops.{_⊘_, of, zero, two}
 use Rattle.complex.specs.declared.value.Complex.{Complex}
-use Rattle.complex.specs.Cx.{cDiv}
+use Rattle.complex.specs.Value.{cDiv}
 use Rattle.row.specs.Samples.{Iq}
 use Rattle.row.specs.Window.{Rate, samples, stepOf, stepBlocks}
 use Rattle.row.proofs.Steps.{step-low}

@@ -8,28 +8,29 @@ use lib.IntN.{pos}
 use lib.Dec.{T, lit≤, lit<}
 use lib.Ieee.{Float, nan, inf, fin, binary64, round, mul, lt, le, eq, ofInt, toUnsigned}
 use lib.Ieee.Positive.{positive, mul-mono}
-use Rattle.float.specs.Ops.{_⊕_, _⊖_, _⊗_, of, bits, zero, absOf, fraction}
+use Rattle.float.specs.Ops.{_⊕_, _⊖_, _⊗_, of, bits, zero, fraction}
+use Rattle.float.specs.Compare.{absOf}
 use Rattle.float.specs.Whole.{wholeBy, floorOf, ceilOf}
 use Rattle.float.proofs.Ordered.{unsigned-mono}
 use Rattle.float.proofs.Monotone.{le-through, ceil-mono}
 use Rattle.float.proofs.Within.{Within, within-finite, within-more, le-within, add-within, sub-within, mul-within}
 use Rattle.float.proofs.Intervals.{interval-is}
 use Rattle.row.specs.Window.{Rate}
-use Rattle.elements.specs.Times.{RISE_S}
-use Rattle.elements.proofs.Laws.{RISE_S-bits}
-use Rattle.fits.specs.Constants.{MIN_INTERIOR_S}
+use Rattle.constants.specs.Constants.{RISE_S, MIN_INTERIOR_S}
+use Rattle.constants.proofs.Bits.{rise-bits}
 use Rattle.fits.specs.declared.interior.Interior.{Interior}
 use Rattle.fits.specs.declared.interior.Interior.the-variants.{Inside, Nothing}
-use Rattle.fits.specs.Interior.{loOf, hiOf, minLen, unfit, sized, interiorOf}
+use Rattle.fits.specs.Interior.{loOf, hiOf, minLen, unfit, interiorOf}
+use Rattle.float.specs.Size.{sized}
 use Rattle.row.proofs.Steps.{rate-pos}
 
 pub lo-is : (fs start lo : Float) → lo ≡ ceilOf (start ⊕ bits 0x3f74_7ae1_47ae_147b ⊗ fs) → lo ≡ loOf fs start
 unfolding loOf
-lo-is fs start lo e = rw (← RISE_S-bits) e
+lo-is fs start lo e = rw (rise-bits) e
 
 pub hi-is : (fs end hi : Float) → hi ≡ floorOf (end ⊖ bits 0x3f74_7ae1_47ae_147b ⊗ fs) → hi ≡ hiOf fs end
 unfolding hiOf
-hi-is fs end hi e = rw (← RISE_S-bits) e
+hi-is fs end hi e = rw (rise-bits) e
 
 module _ (n : ℕ) (fs start end lo hi : Float) (e : lo ≡ loOf fs start) (f : hi ≡ hiOf fs end) where
   pub before-it : lt lo zero ≡ true → Nothing ≡ interiorOf n fs start end
@@ -78,7 +79,7 @@ unfolding ofInt round le lt eq
 rate-small = tt
 
 least-pos : T (positive MIN_INTERIOR_S) × T (le MIN_INTERIOR_S MIN_INTERIOR_S)
-unfolding MIN_INTERIOR_S round le lt eq
+unfolding MIN_INTERIOR_S fraction round le lt eq
 least-pos = (tt, tt)
 
 ends-pos : T (positive (of 2000)) × T (positive (of 192000))
@@ -86,7 +87,7 @@ unfolding ofInt round
 ends-pos = (tt, tt)
 
 least-ends : (minLen (of 2000) ≡ 20) × (minLen (of 192000) ≡ 1920)
-unfolding minLen MIN_INTERIOR_S round ofInt mul ceilOf wholeBy toUnsigned
+unfolding minLen MIN_INTERIOR_S fraction round ofInt mul ceilOf wholeBy toUnsigned
 least-ends = (refl, refl)
 
 enough : (n : ℕ) → n ≤ 1048576 → n < 2 ^ 53

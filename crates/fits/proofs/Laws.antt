@@ -11,9 +11,11 @@ use mathlib.Core.Bool.{true, false}
 use Rattle.float.specs.Ops.{_⊘_, zero}
 use native.Mathlib.Numerals.{add-one}
 use Rattle.complex.specs.declared.value.Complex.{Complex}
-use Rattle.complex.specs.Cx.{cNew, cAdd, cNorm, cArg}
-use Rattle.complex.specs.Rows.{cSum, cSum-none0, cSum-turn0, cSum-done0, zSet, zFill, zFill-none, zFill-turn0, zFill-done}
-use Rattle.fits.specs.Sums.{fSum, total, fSum-none, fSum-turn, fSum-done}
+use Rattle.complex.specs.Value.{cNew, cAdd, cNorm, cArg}
+use Rattle.complex.specs.Rows.{cSum, zSet, zFill}
+use Rattle.complex.proofs.RowLaws.{cSum-none0, cSum-turn0, cSum-done0, zFill-none, zFill-turn0, zFill-done}
+use Rattle.lists.specs.Sums.{fSum, total}
+use Rattle.lists.proofs.Sums.{fSum-none, fSum-turn, fSum-done}
 use Rattle.fits.specs.Line.{weighted, moment, lineSlope}
 use Rattle.fits.specs.Slope.{phaseOn, phaseOf, pointOf}
 use Rattle.fits.specs.Gain.{hann, leveledBy, leveled}

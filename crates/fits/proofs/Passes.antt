@@ -20,7 +20,7 @@ use Rattle.elements.specs.Find.{foundOf, elementsFound}
 use Rattle.elements.proofs.Stored.{stored-read}
 use Rattle.elements.proofs.Bounds.{Plain, found-bounded}
 use Rattle.elements.proofs.Recording.{listed-counted, all-counted, enough-places}
-use Rattle.fits.specs.Interior.{sized}
+use Rattle.float.specs.Size.{sized}
 use Rattle.fits.specs.Fit.{Timed, fitsOf}
 use Rattle.fits.specs.Lists.{AllTimed, elementsIn, fitsIn, storedFits}
 use Rattle.fits.specs.declared.estimate.Estimate.{Estimate}

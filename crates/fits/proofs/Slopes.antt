@@ -11,9 +11,11 @@ use lib.ListN.{length}
 use lib.Ieee.{Float}
 use Rattle.float.specs.Ops.{_⊖_, _⊗_, _⊘_, zero, minus-zero}
 use Rattle.complex.specs.declared.value.Complex.{Complex}
-use Rattle.complex.specs.Cx.{cNorm}
-use Rattle.complex.specs.Rows.{zAt, zFill, zAt-zFill}
-use Rattle.fits.specs.Sums.{total, fSum-cong}
+use Rattle.complex.specs.Value.{cNorm}
+use Rattle.complex.specs.Rows.{zAt, zFill}
+use Rattle.complex.proofs.RowLaws.{zAt-zFill}
+use Rattle.lists.specs.Sums.{total}
+use Rattle.lists.proofs.Sums.{fSum-cong}
 use Rattle.fits.specs.Line.{phaseIn, weightIn, timeOf, weighted, moment, lineSlope}
 use Rattle.fits.specs.Slope.{slopeMean, phaseOf, pointOf, slopeOf}
 

@@ -15,7 +15,8 @@ use Rattle.fits.specs.declared.fit.ElementFit.{ElementFit}
 use Rattle.fits.specs.declared.fit.Fit.{Fit}
 use Rattle.fits.specs.declared.fit.Fit.the-variants.{Fitted, Skipped}
 use Rattle.fits.specs.Fit.{kept, fitOf, fitsOf}
-use Rattle.fits.specs.Lists.{firsts, elementsIn, fitAt, putFit, fitsIn, fitsFrom, storedFits}
+use Rattle.lists.specs.Firsts.{firsts}
+use Rattle.fits.specs.Lists.{elementsIn, fitAt, putFit, fitsIn, fitsFrom, storedFits}
 use Rattle.fits.proofs.Fitted.{one-kept}
 
 -- ---- the two ways out of `keep`

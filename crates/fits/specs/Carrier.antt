@@ -2,20 +2,17 @@
 use mathlib.Core.Bool.{cond}
 use mathlib.Core.List.{List, [], _∷_}
 use lib.Ieee.{Float, lt}
-use Rattle.float.specs.Ops.{_⊕_, _⊖_, _⊗_, _⊘_, zero, two, maxOf}
+use Rattle.float.specs.Ops.{_⊕_, _⊖_, _⊗_, _⊘_, zero, two}
+use Rattle.float.specs.Compare.{maxOf}
 use Rattle.trig.specs.Constants.{TAU}
-use Rattle.complex.specs.Cx.{cNorm}
-use Rattle.elements.specs.Times.{RISE_S}
+use Rattle.complex.specs.Value.{cNorm}
+use Rattle.constants.specs.Constants.{RISE_S}
 use Rattle.fits.specs.declared.fit.ElementFit.{ElementFit}
+use Rattle.lists.specs.Sums.{sumOver}
 
 -- the weight of a fit: interior length × |gain|
 unfoldable pub fitWeight : Float → ElementFit → Float
 fitWeight fs f = maxOf (f .element .end ⊖ f .element .start ⊖ two ⊗ RISE_S ⊗ fs) zero ⊗ cNorm (f .gain)
-
--- start, then a figure of each fit added to it, in order
-unfoldable pub sumOver : (ElementFit → Float) → Float → List ElementFit → Float
-sumOver figure start [] = start
-sumOver figure start (f ∷ fs) = sumOver figure (start ⊕ figure f) fs
 
 abbrev pub weightedSlope : Float → ElementFit → Float
 weightedSlope fs f = fitWeight fs f ⊗ f .«slope_rad_per_sample»

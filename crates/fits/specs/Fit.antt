@@ -5,7 +5,7 @@ use mathlib.Core.List.{List, [], _∷_, _++_}
 use lib.Dec.{T}
 use lib.Ieee.{Float, le}
 use Rattle.float.specs.Ops.{_⊘_, zero}
-use Rattle.complex.specs.Cx.{cDiv}
+use Rattle.complex.specs.Value.{cDiv}
 use Rattle.row.specs.Window.{samples}
 use Rattle.elements.specs.declared.element.KeyedElement.{KeyedElement}
 use Rattle.fits.specs.declared.interior.Interior.{Interior}
@@ -13,7 +13,8 @@ use Rattle.fits.specs.declared.interior.Interior.the-variants.{Inside, N
 use Rattle.fits.specs.declared.fit.ElementFit.{ElementFit}
 use Rattle.fits.specs.declared.fit.Fit.{Fit}
 use Rattle.fits.specs.declared.fit.Fit.the-variants.{Fitted, Skipped}
-use Rattle.fits.specs.Interior.{sized, interiorOf, blockOf}
+use Rattle.float.specs.Size.{sized}
+use Rattle.fits.specs.Interior.{interiorOf, blockOf}
 use Rattle.fits.specs.Slope.{slopeOf}
 use Rattle.fits.specs.Gain.{refSample, gainSum, hannSum}
 

@@ -4,14 +4,14 @@ use Prim.Native.Nat.{ℕ, _+_, _-_}
 use mathlib.Core.List.{List}
 use lib.Ieee.{Float, neg}
 use Rattle.float.specs.Ops.{_⊕_, _⊖_, _⊗_, _⊘_, of, zero, half, two}
-use Rattle.float.specs.Rem.{remEuclidOf}
-use Rattle.trig.specs.Trig.{cosOf}
+use Rattle.float.specs.Remainder.{remEuclidOf}
+use Rattle.trig.specs.Circle.{cosOf}
 use Rattle.complex.specs.declared.value.Complex.{Complex}
-use Rattle.complex.specs.Cx.{cMul, cPolar}
+use Rattle.complex.specs.Value.{cMul, cPolar}
 use Rattle.complex.specs.Rows.{cSum}
 use Rattle.trig.specs.Constants.{TAU}
 use Rattle.row.specs.Blocks.{derot}
-use Rattle.fits.specs.Sums.{fSum}
+use Rattle.lists.specs.Sums.{fSum}
 
 -- `ref_sample`: the middle of the samples from i0 up to, not including, i1
 unfoldable pub refSample : ℕ → ℕ → Float

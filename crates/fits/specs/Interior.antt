@@ -4,10 +4,10 @@ use Prim.Native.Nat.{ℕ}
 use mathlib.Core.Bool.{Bool, false, _||_, cond}
 use lib.IntN.{pos}
 use lib.Ieee.{Float, fin, lt, le, toUnsigned}
-use Rattle.float.specs.Ops.{_⊕_, _⊖_, _⊗_, of, zero, one, absOf, maxOf}
+use Rattle.float.specs.Ops.{_⊕_, _⊖_, _⊗_, of, zero, one}
+use Rattle.float.specs.Compare.{absOf, maxOf}
 use Rattle.float.specs.Whole.{floorOf, ceilOf, roundOf}
-use Rattle.elements.specs.Times.{RISE_S}
-use Rattle.fits.specs.Constants.{MIN_INTERIOR_S, SLOPE_BLOCK_S}
+use Rattle.constants.specs.Constants.{RISE_S, MIN_INTERIOR_S, SLOPE_BLOCK_S}
 use Rattle.fits.specs.declared.interior.Interior.{Interior}
 use Rattle.fits.specs.declared.interior.Interior.the-variants.{Inside, Nothing}
 
@@ -28,10 +28,6 @@ unfit n fs start end =
     let lo = loOf fs start in
     let hi = hiOf fs end in
     lt lo zero || (lt (of n) hi || lt (hi ⊖ lo) (of (minLen fs)))
-
--- finite, and of size at most 2^200 (question 7), as an element's start and end are
-unfoldable pub sized : Float → Bool
-sized x = le (absOf x) (fin false 1 (pos 200))
 
 -- the samples from i0 on, up to but without i1; nothing where the element is skipped
 unfoldable pub interiorOf : ℕ → Float → Float → Float → Interior

@@ -1,7 +1,5 @@
 -- What the contracts of `fits` cite.
-pub mod Constants
 pub mod Interior
-pub mod Sums
 pub mod Line
 pub mod Slope
 pub mod Gain

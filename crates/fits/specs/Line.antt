@@ -7,7 +7,7 @@ use lib.Dec.{leb}
 use lib.Ieee.{Float, lt}
 use Rattle.float.specs.Ops.{_⊕_, _⊖_, _⊗_, _⊘_, of, zero, one, two}
 use Rattle.complex.specs.Rows.{zAt}
-use Rattle.fits.specs.Sums.{total}
+use Rattle.lists.specs.Sums.{total}
 
 -- the time of block b of an interior that begins at i0: the middle of its samples
 abbrev pub timeOf : ℕ → ℕ → ℕ → Float

@@ -9,11 +9,7 @@ use Rattle.elements.specs.declared.element.KeyedElement.{KeyedElement}
 use Rattle.elements.specs.Found.{elementAt, putElement}
 use Rattle.fits.specs.declared.fit.ElementFit.{ElementFit}
 use Rattle.fits.specs.Fit.{Timed}
-
--- the first n of a row
-unfoldable pub firsts : {A : Type 0} → (ℕ → A) → ℕ → List A
-firsts f zero = []
-firsts f (suc n) = firsts f n ++ (f n ∷ [])
+use Rattle.lists.specs.Firsts.{firsts}
 
 -- the elements at the first n places of a list
 unfoldable pub elementsIn : List Float → ℕ → List KeyedElement

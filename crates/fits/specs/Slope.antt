@@ -5,7 +5,7 @@ use mathlib.Core.List.{List}
 use lib.Ieee.{Float}
 use Rattle.float.specs.Ops.{_⊕_}
 use Rattle.complex.specs.declared.value.Complex.{Complex}
-use Rattle.complex.specs.Cx.{cNew, cMul, cConj, cNorm, cArg}
+use Rattle.complex.specs.Value.{cNew, cMul, cConj, cNorm, cArg}
 use Rattle.row.specs.Blocks.{meanFrom}
 use Rattle.fits.specs.Line.{timeOf, lineSlope}
 

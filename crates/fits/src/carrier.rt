@@ -1,14 +1,15 @@
 // The mean slope of a list of fits.
 use crate::fit::ElementFit;
-use crate::gain::TAU;
 use crate::list::fit_at;
-use elements::keying::RISE_S;
+use constants::RISE_S;
+use trig::TAU;
 ghost use mathlib.Core.Path.{_≡_};
 ghost use Prim.Native.Nat.{_*_, _≤_};
 ghost use lib.ListN.{length};
 ghost use Rattle.float.specs.Ops.{zero};
 ghost use Rattle.fits.specs.Lists.{fitsIn};
-ghost use Rattle.fits.specs.Carrier.{fitWeight, weightedSlope, sumOver, meanSlope};
+ghost use Rattle.fits.specs.Carrier.{fitWeight, weightedSlope, meanSlope};
+ghost use Rattle.lists.specs.Sums.{sumOver};
 
 // Rust: `w` in `mean_slope_hz`.
 fn fit_weight(f: ElementFit, fs: f64) -> f64

@@ -1,13 +1,12 @@
 // The gain of an interior: the Hann-weighted mean of its derotated samples, with the slope removed.
 use complex::Complex;
+use trig::TAU;
 ghost use mathlib.Core.Path.{_≡_};
 ghost use Prim.Native.Nat.{_+_, _*_, _≤_, _<_};
 ghost use lib.ListN.{length};
 ghost use Rattle.trig.specs.Sine.{sineTable};
 ghost use Rattle.row.specs.Samples.{Iq};
 ghost use Rattle.fits.specs.Gain.{hann, tiltOf, leveledBy, gainSum, hannSum};
-
-pub const TAU: f64 = 6.28318530717958647692528676655900577;
 
 // Rust: `w` in `fit_elements`.
 fn hann_weight(len: usize, j: usize, sine: &[u64; 1025]) -> f64

@@ -1,13 +1,11 @@
 // The interior of an element: the whole samples at least RISE_S inside of it.
-use elements::keying::RISE_S;
+use constants::MIN_INTERIOR_S;
+use constants::RISE_S;
+use constants::SLOPE_BLOCK_S;
 ghost use mathlib.Core.Path.{_≡_};
 ghost use Prim.Native.Nat.{_≤_};
 ghost use Rattle.float.specs.Ops.{of};
 ghost use Rattle.fits.specs.Interior.{interiorOf, blockOf, minLen};
-
-const MIN_INTERIOR_S: f64 = 10e-3;
-
-const SLOPE_BLOCK_S: f64 = 0.5e-3;
 
 // From the first sample up to, not including, `past`; or nothing, where the element is too short or leaves the
 // recording.

@@ -4,7 +4,7 @@
 ghost use mathlib.Core.Path.{_≡_};
 ghost use Prim.Native.Nat.{_+_, _*_, _≤_, _<_};
 ghost use lib.ListN.{length};
-ghost use Rattle.fits.specs.Sums.{total};
+ghost use Rattle.lists.specs.Sums.{total};
 ghost use Rattle.fits.specs.Line.{phaseIn, weightIn, timeOf, weighted, moment, lineSlope};
 
 // The middle of block b of an interior that begins at i0.

@@ -5,7 +5,7 @@ ghost use mathlib.Core.Path.{_≡_};
 ghost use Prim.Native.Nat.{_+_, _*_, _/_, _≤_, _<_};
 ghost use lib.ListN.{length};
 ghost use Rattle.trig.specs.Sine.{sineTable};
-ghost use Rattle.complex.specs.Cx.{cNew, cNorm};
+ghost use Rattle.complex.specs.Value.{cNew, cNorm};
 ghost use Rattle.complex.specs.Rows.{zFill};
 ghost use Rattle.row.specs.Samples.{Iq};
 ghost use Rattle.fits.specs.Slope.{slopeMean, phaseOn, pointOf, slopeOf};

@@ -19,7 +19,7 @@ use lib.Ieee.Bits.{is-false}
 use lib.Ieee.Scale.{finite}
 use lib.Ieee.Positive.{num, den, den-pos, first-pos}
 use Rattle.float.specs.Ops.{_⊕_, _⊖_, _⊗_, _⊘_, zero as nought, half}
-use Rattle.float.specs.Sqrt.{sqrtOf}
+use Rattle.float.specs.Root.{sqrtOf}
 use Rattle.float.proofs.Exactly.{neg-round, round-value, fits-says, exponent}
 use Rattle.float.proofs.Compared.{lt→cross, le→value}
 use Rattle.float.proofs.Sums.{sub-over}

@@ -16,7 +16,8 @@ use lib.Ieee.Exact.{HasValue, round-exact}
 use lib.Ieee.Order.{round-mono}
 use lib.Ieee.Scale.{finite}
 use lib.Ieee.Positive.{num, den, den-pos, first-pos, value→cross}
-use Rattle.float.specs.Ops.{_⊕_, _⊖_, _⊗_, _⊘_, of, fraction, absOf, zero as nought, one, half, two, eight}
+use Rattle.float.specs.Ops.{_⊕_, _⊖_, _⊗_, _⊘_, of, fraction, zero as nought, one, half, two, eight}
+use Rattle.float.specs.Compare.{absOf}
 use Rattle.float.specs.Whole.{halfUp, wholeBy, roundOf}
 use Rattle.float.proofs.Exactly.{neg-round, fits-says}
 use Rattle.float.proofs.Signs.{Signed, round-signed}

@@ -1,7 +1,7 @@
 -- The definition at work: antt computes it. Assumes nothing.
 use mathlib.Core.Path.{_≡_, refl}
 use lib.Ieee.{binary32, binary64, ofBits}
-use Rattle.float.specs.Sqrt.{sqrtOf}
+use Rattle.float.specs.Root.{sqrtOf}
 
 -- 2
 two : sqrtOf binary64 (ofBits binary64 0x4000_0000_0000_0000) ≡ ofBits binary64 0x3ff6_a09e_667f_3bcd

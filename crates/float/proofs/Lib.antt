@@ -34,6 +34,10 @@
 --             `of-rounded`, `fraction-rounded`, `add-rounded`, `sub-rounded`, `mul-rounded`, `div-rounded`;
 --             `root-nearest`; `counted`, `last-bit`
 -- Unrounded   floor, ceil, round lose nothing to the format: `floor-exact`, `ceil-exact`, `nearest-exact`
+-- Literals    what the small literals are; 01's examples of `round` and `rem_euclid`
+-- Finiteness  `finite-not-nan`, `below-top`, `not-below-top`
+pub mod Literals
+pub mod Finiteness
 pub mod Digits
 pub mod Exactly
 pub mod Compared

@@ -13,8 +13,8 @@ use lib.Ieee.{Float, nan, inf, fin, Format, binary32, binary64, prec, emax, low,
 use lib.Ieee.Digits.{size-lt, size-le, size-reaches}
 use lib.Ieee.Fits.{two, down-pos, odd-fits, cond-fits, inf-fits}
 use lib.Ieee.Exact.{HasValue, units-val}
-use Rattle.float.specs.Sqrt.{isqrt, rootOf, sqrtOf, Nearest}
-use Rattle.float.specs.RootSteps.{NearRoot, Rooted}
+use Rattle.float.specs.Root.{isqrt, rootOf, sqrtOf, Nearest}
+use Rattle.float.specs.Inner.{NearRoot, Rooted}
 use Rattle.float.proofs.Digits.{pow-lt→lt, halves}
 use Rattle.float.proofs.Exactly.{fits-parts, exponent}
 use Rattle.float.proofs.Squares.{square-lt-back, square-next, near-down, near-up, near-under}

@@ -18,7 +18,7 @@ use lib.Ieee.Bits.{ofBits-fits, cond-no, ofBits-toBits, nanBits-is, nanBits-abov
 use lib.Ieee.Exact.{HasValue, odd-sign, units-val}
 use lib.Ieee.Nearest.{closest, closest-same}
 use lib.Ieee.Scale.{round-same}
-use Rattle.float.specs.Narrow.{narrowOf, Narrowed}
+use Rattle.float.specs.Single.{narrowOf, Narrowed}
 use Rattle.float.proofs.Exactly.{unique}
 use Rattle.float.proofs.Digits.{pow-split, size-gt, Cmp, cmp}
 use Rattle.float.proofs.Patterns.{signed, ofBits-fields, closest-code}

@@ -12,8 +12,8 @@ use lib.Ieee.Bits.{cond-no}
 use lib.Ieee.Fits.{up-pos, down-pos}
 use lib.Ieee.Exact.{HasValue}
 use lib.Ieee.Scale.{round-same, finite}
-use Rattle.float.specs.Ops.{absOf}
-use Rattle.float.specs.Rem.{remEuclidOf}
+use Rattle.float.specs.Compare.{absOf}
+use Rattle.float.specs.Remainder.{remEuclidOf}
 use Rattle.float.proofs.Exactly.{fits-parts, zero-exp, few-exact, rest-few, round-self, neg-round}
 use Rattle.float.proofs.Compared.{nought, lt→cross, under-power}
 use Rattle.float.proofs.Sums.{cond-nil, add-over, sub-over, sum-less, sum-more, under-zero, not-under, over-zero, not-over-minus, none-under}

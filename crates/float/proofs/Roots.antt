@@ -10,8 +10,8 @@ use lib.Pow.{pow-pos, pow-add}
 use lib.Ieee.{Float, Format, prec, size, nearest, units}
 use lib.Ieee.Digits.{size-lt}
 use lib.Ieee.Fits.{two}
-use Rattle.float.specs.Sqrt.{digit, root, isqrt, rootOf}
-use Rattle.float.specs.RootSteps.{NearRoot}
+use Rattle.float.specs.Root.{digit, root, isqrt, rootOf}
+use Rattle.float.specs.Inner.{NearRoot}
 use Rattle.float.proofs.Digits.{size-exact, Cmp, cmp}
 use Rattle.float.proofs.Squares.{square-lt-back, near-unique}
 

@@ -22,7 +22,7 @@ use lib.Ieee.Exact.{HasValue, units-val}
 use lib.Ieee.Order.{drop, kept}
 use lib.Ieee.Scale.{grid, overflow, finite, round-same}
 use Rattle.float.specs.Ops.{_⊕_, _⊖_, _⊗_, _⊘_, of, fraction}
-use Rattle.float.specs.Narrow.{narrowOf}
+use Rattle.float.specs.Single.{narrowOf}
 use Rattle.float.proofs.Exactly.{unique, fits-parts, exponent}
 use Rattle.float.proofs.Compared.{nought}
 use Rattle.float.proofs.Sums.{add-over, sub-over, mul-over, div-over}

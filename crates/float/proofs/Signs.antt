@@ -10,9 +10,9 @@ use lib.Ieee.{Float, nan, inf, fin, Format, binary32, prec, emax, low, unlike, u
 use lib.Ieee.Fits.{round-is as round-core, down-pos}
 use lib.Ieee.Exact.{HasValue, odd-sign}
 use lib.Ieee.Scale.{finite}
-use Rattle.float.specs.Ops.{absOf}
-use Rattle.float.specs.Sqrt.{rootOf, sqrtOf}
-use Rattle.float.specs.Narrow.{narrowOf}
+use Rattle.float.specs.Compare.{absOf}
+use Rattle.float.specs.Root.{rootOf, sqrtOf}
+use Rattle.float.specs.Single.{narrowOf}
 use Rattle.float.proofs.Sums.{sum-plus, cond-nil, some-digits}
 
 -- ---- a rounded value has the sign that it was given

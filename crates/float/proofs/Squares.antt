@@ -3,7 +3,7 @@ use mathlib.Core.Path.{_≡_, sym, ap, _∙_}
 use Prim.Native.Nat.{ℕ, zero, suc, _+_, _-_, _*_, _/_, _%_, _^_, _≤_, _<_}
 use native.Mathlib.Nat.{le-of-suc-le-suc, lt-of-not-le, lt-irrefl, lt-of-lt-of-le, mul-le-mul, mul-le-mul-left, mul-le-mul-right, mul-add, add-mul, mul-comm, mul-assoc, mul-mul-mul-comm, div-add-mod', div-lt-iff-lt-mul, mod-lt, le-antisymm}
 use native.Mathlib.Omega.{arith}
-use Rattle.float.specs.RootSteps.{NearRoot, Rooted}
+use Rattle.float.specs.Inner.{NearRoot, Rooted}
 
 pub square-add : (a b : ℕ) → (a + b) * (a + b) ≡ a * a + 2 * (a * b) + b * b
 square-add a b = omega (arith, mul-add (a + b) a b, add-mul a b a, add-mul a b b, mul-comm b a)

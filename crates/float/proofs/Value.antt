@@ -15,8 +15,8 @@ use lib.Ieee.Fits.{down-pos}
 use lib.Ieee.Bits.{nanBits-is, nanBits-above}
 use lib.Ieee.Compare.{nan-differs}
 use lib.Ieee.Exact.{HasValue, odd-sign}
-use Rattle.float.specs.Sqrt.{rootOf, sqrtOf}
-use Rattle.float.specs.RootSteps.{counted, NearRoot, Scaled}
+use Rattle.float.specs.Root.{rootOf, sqrtOf}
+use Rattle.float.specs.Inner.{counted, NearRoot, Scaled}
 use Rattle.float.proofs.Digits.{halves}
 use Rattle.float.proofs.Squares.{square-lt-back, near-under}
 use Rattle.float.proofs.Roots.{root-at}

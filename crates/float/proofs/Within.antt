@@ -17,10 +17,10 @@ use lib.Ieee.Fits.{round-fits, down-pos, two}
 use lib.Ieee.Exact.{HasValue, round-exact}
 use lib.Ieee.Scale.{finite}
 use lib.Ieee.Order.{round-mono}
-use Rattle.float.specs.Ops.{absOf, maxOf}
+use Rattle.float.specs.Compare.{absOf, maxOf}
 use Rattle.float.specs.Whole.{floorOf, ceilOf, roundOf}
-use Rattle.float.specs.Narrow.{narrowOf}
-use Rattle.float.specs.Sqrt.{sqrtOf}
+use Rattle.float.specs.Single.{narrowOf}
+use Rattle.float.specs.Root.{sqrtOf}
 use Rattle.float.proofs.Squares.{square-lt-back}
 use Rattle.float.proofs.Cuts.{revalue}
 use Rattle.float.proofs.Meaning.{sqrt-nearest}

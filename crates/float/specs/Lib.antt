@@ -1,7 +1,9 @@
--- What the contracts of `float` cite.
+-- What the contracts of `float` cite. `Inner` is not needed to read a public promise.
 pub mod Ops
-pub mod Rem
+pub mod Compare
+pub mod Size
+pub mod Remainder
 pub mod Whole
-pub mod Narrow
-pub mod Sqrt
-pub mod RootSteps
+pub mod Single
+pub mod Root
+pub mod Inner

@@ -30,16 +30,6 @@ of n = ofInt binary64 (pos n)
 unfoldable pub fraction : ℕ → ℕ → Float
 fraction a c = round binary64 false a c
 
--- |x|: the sign is dropped
-unfoldable pub absOf : Float → Float
-absOf nan = nan
-absOf (inf s) = inf false
-absOf (fin s m e) = fin false m e
-
--- Rust's `a.max(b)`: the other one where one is a NaN
-unfoldable pub maxOf : Float → Float → Float
-maxOf a b = cond (isNan a) b (cond (lt a b) b a)
-
 -- A literal of the code is its bit pattern; `literals` says which number each is.
 abbrev pub bits : ℕ → Float
 bits n = ofBits binary64 n
@@ -61,7 +51,3 @@ two = bits 0x4000_0000_0000_0000
 
 abbrev pub eight : Float
 eight = bits 0x4020_0000_0000_0000
-
-pub literals : (zero ≡ of 0) × (minus-zero ≡ neg zero) × (half ≡ fraction 1 2) × (one ≡ of 1) × (two ≡ of 2) × (eight ≡ of 8)
-unfolding ofBits ofInt neg fraction
-literals = (refl, refl, refl, refl, refl, refl)

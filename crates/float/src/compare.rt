@@ -1,6 +1,6 @@
 // The size of a number, and the larger of two.
 ghost use mathlib.Core.Path.{_≡_};
-ghost use Rattle.float.specs.Ops.{absOf, maxOf};
+ghost use Rattle.float.specs.Compare.{absOf, maxOf};
 
 // Rust: f64::abs. 0.0 - x has its sign clear for either zero.
 pub fn abs(x: f64) -> f64

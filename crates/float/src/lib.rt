@@ -3,6 +3,7 @@ pub mod compare;
 pub mod remainder;
 pub mod root;
 pub mod single;
+pub mod size;
 pub mod whole;
 
 pub use compare::abs;
@@ -11,6 +12,8 @@ pub use remainder::rem_euclid;
 pub use remainder::rem_one;
 pub use root::sqrt;
 pub use single::narrow;
+pub use size::finite;
+pub use size::finite_single;
 pub use whole::ceil;
 pub use whole::exact;
 pub use whole::floor;

@@ -4,7 +4,7 @@ ghost use mathlib.Core.Path.{_≡_};
 ghost use lib.Ieee as Ieee;
 ghost use lib.Ieee.{binary64};
 ghost use Rattle.float.specs.Ops.{one};
-ghost use Rattle.float.specs.Rem.{remEuclidOf};
+ghost use Rattle.float.specs.Remainder.{remEuclidOf};
 
 // a % b, which is a itself where |a| is below |b|.
 fn rem(a: f64, b: f64) -> f64

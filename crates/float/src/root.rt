@@ -5,8 +5,8 @@ ghost use mathlib.Core.Bool.{not};
 ghost use Prim.Native.Nat.{_+_, _*_, _^_, _<_, _≤_};
 ghost use lib.Dec.{T};
 ghost use lib.Ieee.{binary64, ofBits, nanBits};
-ghost use Rattle.float.specs.Sqrt.{sqrtOf};
-ghost use Rattle.float.specs.RootSteps.{NearRoot, Rooted, Scaled, counted};
+ghost use Rattle.float.specs.Root.{sqrtOf};
+ghost use Rattle.float.specs.Inner.{NearRoot, Rooted, Scaled, counted};
 
 // The whole part of a root, and the rest: what its square leaves of the number.
 struct WholeRoot {

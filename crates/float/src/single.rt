@@ -1,7 +1,7 @@
 // From f64 to f32.
 ghost use mathlib.Core.Path.{_≡_};
 ghost use Prim.Native.Nat.{_≤_};
-ghost use Rattle.float.specs.Narrow.{narrowOf, Narrowed};
+ghost use Rattle.float.specs.Single.{narrowOf, Narrowed};
 
 // The pattern of the `f32` nearest to the `f64` with the pattern a: both without their sign, and
 // neither a NaN's. An `f64`'s digits below its field's are 52, an `f32`'s 23, and the fields differ

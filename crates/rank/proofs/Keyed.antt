@@ -13,12 +13,12 @@ use lib.Ieee.{Float, nan, inf, fin, Format, lt, eq, odd, neg, ofFields, ofBits, 
 use lib.Ieee.Exact.{HasValue}
 use lib.Ieee.Bits.{ofBits-toBits, toBits-lt, nanBits-above}
 use lib.Arith.{le→nltb}
-use Rattle.float.specs.RootSteps.{counted}
+use Rattle.float.specs.Inner.{counted}
 use Rattle.float.proofs.Value.{counted-value}
 use Rattle.float.proofs.Patterns.{ofBits-fields}
 use Rattle.float.proofs.Narrowing.{magnitude-le}
 use Rattle.rank.specs.Order.{minusZero, precedes}
-use Rattle.rank.specs.Keys.{keyBits, keyOf, valueOf, Key}
+use Rattle.rank.specs.Inner.{keyBits, keyOf, valueOf, Key}
 use Rattle.rank.proofs.Patterns.{top, Pattern, keeps-ltb, lt-pattern, eq-pattern, zero-pattern}
 
 -- ---- a pattern with the sign is that of the negated value

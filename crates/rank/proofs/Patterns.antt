@@ -15,7 +15,7 @@ use lib.IntN.{ℤ}
 use lib.Ieee.{Float, nan, inf, fin, up, down, lt, eq, odd, neg, ofFields, ofBits, below, level, binary64}
 use lib.Ieee.Fits.{up-pos, down-pos}
 use lib.Ieee.Exact.{HasValue}
-use Rattle.float.specs.RootSteps.{counted}
+use Rattle.float.specs.Inner.{counted}
 use Rattle.float.proofs.Value.{counted-value}
 use Rattle.float.proofs.Patterns.{ofBits-fields}
 use Rattle.rank.specs.Order.{minusZero, precedes}

@@ -15,13 +15,15 @@ use borrow.Author.Tests.{lt-ltb, le-ltb, ltb-true, ltb-false, not-true}
 use lib.Dec.{T, ltb}
 use lib.ListN.{length, getD}
 use lib.Ieee.{Float, nan, binary64, fits}
-use Rattle.rank.specs.Order.{precedes, insert, sorted, countTo, before, upTo}
+use Rattle.rank.specs.Order.{precedes, insert, sorted, before, upTo}
+use Rattle.lists.specs.Count.{countTo}
 use Rattle.rank.specs.Percentile.{rankOf, percentileOf}
-use Rattle.rank.specs.Keys.{keyOf, keyAt, cell, below, Within, Selected, Key, valueOf}
+use Rattle.rank.specs.Inner.{keyOf, keyAt, cell, below, Within, Selected, Key, valueOf}
 use Rattle.rank.specs.declared.Percentile.{Percentile}
 use Rattle.rank.specs.declared.Percentile.the-variants.{Value, Nothing}
 use Rattle.rank.proofs.Keyed.{precedes-key, key-injective, value-key, is-key}
-use Rattle.rank.proofs.Counted.{bit, count-cong, count-le, below-next}
+use Rattle.lists.proofs.Count.{bit, count-cong, count-le}
+use Rattle.rank.proofs.Counted.{below-next}
 
 -- ---- what holds of every element
 abbrev pub Every : (Float → Type 0) → List Float → Type 0

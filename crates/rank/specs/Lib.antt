@@ -1,4 +1,4 @@
 -- What the contracts of `rank` cite.
 pub mod Order
 pub mod Percentile
-pub mod Keys
+pub mod Inner

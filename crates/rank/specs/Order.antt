@@ -4,6 +4,7 @@ use mathlib.Core.Bool.{Bool, true, false, not, _&&_, _||_, cond}
 use mathlib.Core.List.{List, [], _∷_}
 use lib.ListN.{length, getD}
 use lib.Ieee.{Float, nan, inf, fin, lt, eq, isNan}
+use Rattle.lists.specs.Count.{countTo}
 
 -- −0, which stands before +0
 unfoldable pub minusZero : Float → Bool
@@ -27,11 +28,6 @@ unfoldable pub sorted : List Float → List Float
 unfolding insert
 sorted [] = []
 sorted (x ∷ xs) = insert x (sorted xs)
-
--- how many of the indices below n pass a test
-unfoldable pub countTo : (ℕ → Bool) → ℕ → ℕ
-countTo f zero = 0
-countTo f (suc n) = countTo f n + cond (f n) 1 0
 
 -- how many of the list stand before x, and how many do not stand after it
 unfoldable pub before : List Float → Float → ℕ

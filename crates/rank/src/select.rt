@@ -6,7 +6,7 @@ ghost use mathlib.Core.Path.{_≡_};
 ghost use Prim.Native.Nat.{_+_, _*_, _%_, _^_, _<_, _≤_};
 ghost use lib.ListN.{length, getD};
 ghost use Rattle.rank.specs.Percentile.{rankOf, percentileOf};
-ghost use Rattle.rank.specs.Keys.{
+ghost use Rattle.rank.specs.Inner.{
   keyOf,
   valueOf,
   Key,

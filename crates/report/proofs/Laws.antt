@@ -9,8 +9,9 @@ use mathlib.Core.Bool.{true}
 use lib.Dec.{leb, eqb}
 use borrow.Author.Needs.{needs}
 use borrow.Author.Tests.{leb-true}
-use Rattle.complex.specs.Every.{and-right}
-use Rattle.complex.specs.Fill.{fill, fill-none, fill-turn, fill-done}
+use Rattle.lists.proofs.Every.{and-right}
+use Rattle.lists.specs.Fill.{fill}
+use Rattle.lists.proofs.Fill.{fill-none, fill-turn, fill-done}
 use Rattle.report.specs.Bytes.{bytesOk}
 
 -- one place more of a row that starts at 0

@@ -3,7 +3,7 @@ ghost use mathlib.Core.Path.{_≡_};
 ghost use Prim.Native.Nat.{_+_, _*_, _/_, _≤_, _<_};
 ghost use lib.ListN.{length};
 ghost use lib.Ieee.{binary32, ofBits};
-ghost use Rattle.complex.specs.Fill.{fill};
+ghost use Rattle.lists.specs.Fill.{fill};
 ghost use Rattle.report.specs.Bytes.{bytesOk, patternAt, partAt};
 
 // 2, in the program: the bytes are a multiple of 8, at most 16,384.

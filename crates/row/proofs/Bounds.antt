@@ -19,10 +19,11 @@ use Rattle.trig.proofs.Bounds.{sine-bounded, cosine-bounded}
 use Rattle.complex.specs.declared.value.Complex.{Complex}
 use Rattle.complex.specs.Rows.{zAt}
 use Rattle.complex.proofs.Bounds.{CBounded, cbounded-more, cbounded-add, cbounded-sub, cbounded-mul, cbounded-conj, cbounded-div, cbounded-sum, cbounded-mean, norm-amount}
-use Rattle.row.specs.Samples.{finiteF, Iq}
+use Rattle.float.specs.Size.{finiteF}
+use Rattle.row.specs.Samples.{Iq}
 use Rattle.row.specs.Window.{stepOf, blocks}
 use Rattle.row.specs.Blocks.{rotorOf, derot, meanFrom, blockMean}
-use Rattle.row.specs.Amplitudes.{movedBy, runOf, amplitude, rowOf, rowLength}
+use Rattle.row.specs.Envelope.{movedBy, runOf, amplitude, rowOf, rowLength}
 use Rattle.row.proofs.Finite.{finite-at}
 use Rattle.row.proofs.Means.{blocks-short, block-fits}
 use Rattle.row.proofs.Steps.{step-low}

@@ -8,18 +8,14 @@ use mathlib.Core.List.{List}
 use lib.Dec.{T}
 use lib.ListN.{length, getD}
 use lib.Ieee.{Float, nan, inf, fin, isNan, lt}
-use Rattle.complex.specs.Every.{every, every-at}
-use Rattle.row.specs.Samples.{finiteF, finiteTo, allFinite}
+use Rattle.lists.specs.Every.{every}
+use Rattle.lists.proofs.Every.{every-at}
+use Rattle.float.specs.Size.{finiteF}
+use Rattle.row.specs.Samples.{finiteTo, allFinite}
 
 pub finite-at : (l : List Float) (k : ℕ) → k < length l → allFinite l ≡ true → finiteF (getD l k nan) ≡ true
 unfolding finiteTo
 finite-at l k h e = every-at (λ k. finiteF (getD l k nan)) (length l) k h e
-
-pub finite-not-nan : (x : Float) → finiteF x ≡ true → T (not (isNan x))
-unfolding finiteF isNan
-finite-not-nan nan e = absurd (false≢true e)
-finite-not-nan (inf s) e = tt
-finite-not-nan (fin s m e') e = tt
 
 -- a loop that tests each sample: before it, a turn that finds it finite, one that does not, and its end
 module _ (l : List Float) where
@@ -37,17 +33,3 @@ module _ (l : List Float) where
 
   pub finite-done : (i : ℕ) (ok : Bool) → ok ≡ finiteTo l i → i ≤ length l → length l ≤ i → ok ≡ allFinite l
   finite-done i ok p h g = let all : i ≡ length l = omega arith in rw all at p
-
--- the two comparisons of the code, with an infinity
-pub below-top : (x : Float) → lt x (inf false) ≡ true → lt (inf true) x ≡ finiteF x
-unfolding lt finiteF
-below-top nan e = refl
-below-top (inf true) e = refl
-below-top (inf false) e = sym e
-below-top (fin s m d) e = refl
-
-pub not-below-top : (x : Float) → lt x (inf false) ≡ false → lt x (inf false) ≡ finiteF x
-unfolding lt finiteF
-not-below-top nan e = refl
-not-below-top (inf s) e = e
-not-below-top (fin s m d) e = refl

@@ -1,9 +1,10 @@
 -- The laws that the proofs' `search laws` goes by.
 use borrow.Author.Needs.{needs}
 use borrow.Author.Tests.{not-true, not-false}
-use Rattle.complex.specs.Rows.{cSum-none, cSum-turn, cSum-none0, cSum-turn0, cSum-done0, zFill-none, zFill-turn0, zFill-done}
-use Rattle.complex.specs.Fill.{fill-none, fill-turn, fill-done}
-use Rattle.row.proofs.Finite.{finite-at, finite-not-nan, finite-none, finite-yes, finite-no, finite-done}
+use Rattle.complex.proofs.RowLaws.{cSum-none, cSum-turn, cSum-none0, cSum-turn0, cSum-done0, zFill-none, zFill-turn0, zFill-done}
+use Rattle.lists.proofs.Fill.{fill-none, fill-turn, fill-done}
+use Rattle.row.proofs.Finite.{finite-at, finite-none, finite-yes, finite-no, finite-done}
+use Rattle.float.proofs.Finiteness.{finite-not-nan}
 use Rattle.row.proofs.Means.{block-fits, mean-done}
 use Rattle.row.proofs.Running.{run-none, amplitude-is}
 

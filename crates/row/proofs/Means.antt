@@ -8,8 +8,9 @@ use lib.ListN.{length}
 use lib.Ieee.{Float}
 use Rattle.float.specs.Ops.{of}
 use Rattle.complex.specs.declared.value.Complex.{Complex}
-use Rattle.complex.specs.Cx.{cDiv}
-use Rattle.complex.specs.Rows.{cSum, cSum-done}
+use Rattle.complex.specs.Value.{cDiv}
+use Rattle.complex.specs.Rows.{cSum}
+use Rattle.complex.proofs.RowLaws.{cSum-done}
 use Rattle.row.specs.Window.{samples, blocks}
 use Rattle.row.specs.Blocks.{derot, meanFrom}
 

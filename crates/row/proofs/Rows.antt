@@ -11,40 +11,19 @@ use lib.Seq.{length-take-le, getD-at, getD-take, getD-drop, ext-getD}
 use lib.Ieee.{Float, nan}
 use Rattle.float.specs.Ops.{_⊘_, eight}
 use Rattle.complex.specs.declared.value.Complex.{Complex}
-use Rattle.complex.specs.Cx.{cNorm, cDiv}
-use Rattle.complex.specs.Rows.{zAt, zFill, zAt-zFill, length-zFill}
-use Rattle.complex.specs.Fill.{fill, fill-cong, getD-fill, length-fill}
+use Rattle.complex.specs.Value.{cNorm, cDiv}
+use Rattle.complex.specs.Rows.{zAt, zFill}
+use Rattle.complex.proofs.RowLaws.{zAt-zFill, length-zFill}
+use Rattle.lists.specs.Fill.{fill}
+use Rattle.lists.proofs.Fill.{fill-cong, getD-fill, length-fill}
 use Rattle.row.specs.Window.{stepOf, windowOf, samples, blocks, stepBlocks}
 use Rattle.row.specs.Blocks.{blockMean}
-use Rattle.row.specs.Amplitudes.{amplitude, runOf, rowOf, rowLength, listOf}
+use Rattle.row.specs.Envelope.{amplitude, runOf, rowOf, rowLength}
+use Rattle.lists.specs.Firsts.{firsts}
 use Rattle.row.proofs.Running.{run-cong}
 use Rattle.row.proofs.Steps.{step-low}
-
--- ---- the list of a row
-
-pub length-listOf : (f : ℕ → Float) (n : ℕ) → length (listOf f n) ≡ n
-unfolding listOf
-length-listOf f zero = refl
-length-listOf f (suc n) = simp (length-append, length-listOf f n) (omega arith)
-
-pub getD-listOf : (f : ℕ → Float) (n i : ℕ) (d : Float) → i < n → getD (listOf f n) i d ≡ f i
-unfolding listOf
-getD-listOf f zero i d h = absurd (not-suc-le-zero h)
-getD-listOf f (suc n) i d h =
-    ⊎-elim
-    (λ e. rw e (getD-at (listOf f n) (f n) [] d n (length-listOf f n)))
-    (λ b. List·getD-append (listOf f n) (f n ∷ []) d i (rw (length-listOf f n) b) ∙ getD-listOf f n i d b)
-    (eq-or-lt-of-le (le-of-suc-le-suc h))
-
--- a row stored in a slice is the list of the row
-pub part-fill : (l : List Float) (at : ℕ) (f : ℕ → Float) (n : ℕ) → at + n ≤ length l → take n (drop at (fill l at f n)) ≡ listOf f n
-part-fill l at f n h =
-    let room : n ≤ length (drop at (fill l at f n)) = simp (length-drop, length-fill) (omega arith) in
-    let long : length (take n (drop at (fill l at f n))) ≡ n = length-take-le n (drop at (fill l at f n)) room in
-    ext-getD nan (take n (drop at (fill l at f n))) (listOf f n) (long ∙ sym (length-listOf f n))
-    (λ i b.
-    let g : i < n = omega arith in
-    getD-take n (drop at (fill l at f n)) i nan g ∙ getD-drop at (fill l at f n) i nan ∙ getD-fill l at f n i nan g h ∙ sym (getD-listOf f n i nan g))
+use Rattle.lists.specs.Firsts.{firsts}
+use Rattle.lists.proofs.Fill.{part-fill}
 
 -- ---- the row of the block means
 
@@ -61,8 +40,8 @@ module _ (w end : List Float) (z : ℕ → Complex) (b : ℕ) (e : end ≡ fill 
   room : 2 * b + (b - 7) ≤ length (zFill w 0 z b)
   room = rw (length-zFill w 0 z b) (omega arith)
 
-  pub row-part : take (b - 7) (drop (2 * b) end) ≡ listOf (amplitude z) (b - 7)
-  row-part = rw e (part-fill (zFill w 0 z b) (2 * b) (amplitude z) (b - 7) room)
+  pub row-part : take (b - 7) (drop (2 * b) end) ≡ firsts (amplitude z) (b - 7)
+  row-part = rw e (part-fill (zFill w 0 z b) (2 * b) (amplitude z) (b - 7) nan room)
 
   pub row-at : (i : ℕ) → i < b - 7 → getD end (2 * b + i) nan ≡ amplitude z i
   row-at i h = rw e (getD-fill (zFill w 0 z b) (2 * b) (amplitude z) (b - 7) i nan h room)

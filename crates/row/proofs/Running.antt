@@ -8,10 +8,12 @@ use lib.ListN.{set}
 use lib.Ieee.{Float}
 use Rattle.float.specs.Ops.{eight}
 use Rattle.complex.specs.declared.value.Complex.{Complex}
-use Rattle.complex.specs.Cx.{cNorm, cDiv}
-use Rattle.complex.specs.Rows.{zAt, cSum, cSum-cong}
-use Rattle.complex.specs.Fill.{fill, fill-turn, zAt-fill-below}
-use Rattle.row.specs.Amplitudes.{movedBy, runOf, amplitude}
+use Rattle.complex.specs.Value.{cNorm, cDiv}
+use Rattle.complex.specs.Rows.{zAt, cSum}
+use Rattle.complex.proofs.RowLaws.{cSum-cong, zAt-fill-below}
+use Rattle.lists.specs.Fill.{fill}
+use Rattle.lists.proofs.Fill.{fill-turn}
+use Rattle.row.specs.Envelope.{movedBy, runOf, amplitude}
 
 pub run-none : (z : ℕ → Complex) (run : Complex) → run ≡ cSum z 0 8 → run ≡ runOf z 0
 unfolding runOf

@@ -7,13 +7,15 @@ use native.Mathlib.Nat.{le-trans, le-of-eq}
 use lib.Dec.{T, lit≤}
 use lib.Ieee.{Float, nan, inf, fin, binary64, round, mul, div, lt, le, eq, isNan, toUnsigned, ofBits, ofInt}
 use lib.Ieee.Positive.{positive, between, mul-mono}
-use Rattle.float.specs.Ops.{_⊗_, _⊘_, of, one, eight, fraction, maxOf}
+use Rattle.float.specs.Ops.{_⊗_, _⊘_, of, one, eight, fraction}
+use Rattle.float.specs.Compare.{maxOf}
 use Rattle.float.specs.Whole.{wholeBy, roundOf}
 use Rattle.float.proofs.Compared.{yes, no}
 use Rattle.float.proofs.Ordered.{quotient-mono, unsigned-mono}
 use Rattle.float.proofs.Monotone.{lt-le, not-lt-le, round-mono}
-use Rattle.complex.specs.Every.{and-left, and-right}
-use Rattle.row.specs.Window.{rateOk, Rate, EDGE_WINDOW_S, stepOf}
+use Rattle.lists.proofs.Every.{and-left, and-right}
+use Rattle.row.specs.Window.{rateOk, Rate, stepOf}
+use Rattle.constants.specs.Constants.{EDGE_WINDOW_S}
 
 -- what a yes to question 1 says
 pub rate-is : (fs : Float) → rateOk fs ≡ true → Rate fs

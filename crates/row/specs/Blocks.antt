@@ -5,10 +5,10 @@ use Prim.Native.Nat.{ℕ, _*_}
 use mathlib.Core.List.{List}
 use lib.Ieee.{Float}
 use Rattle.float.specs.Ops.{_⊗_, of, one}
-use Rattle.float.specs.Rem.{remEuclidOf}
-use Rattle.trig.specs.Trig.{sinOf, cosOf}
+use Rattle.float.specs.Remainder.{remEuclidOf}
+use Rattle.trig.specs.Circle.{sinOf, cosOf}
 use Rattle.complex.specs.declared.value.Complex.{Complex}
-use Rattle.complex.specs.Cx.{cNew, cMul, cConj, cDiv}
+use Rattle.complex.specs.Value.{cNew, cMul, cConj, cDiv}
 use Rattle.complex.specs.Rows.{zAt, cSum}
 use Rattle.trig.specs.Constants.{TAU}
 

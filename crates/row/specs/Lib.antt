@@ -2,4 +2,4 @@
 pub mod Window
 pub mod Samples
 pub mod Blocks
-pub mod Amplitudes
+pub mod Envelope

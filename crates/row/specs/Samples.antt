@@ -2,16 +2,12 @@
 -- only.
 use Prim.Native.Nat.{ℕ, _≤_}
 use mathlib.Core.Path.{_≡_}
-use mathlib.Core.Bool.{Bool, true, false}
+use mathlib.Core.Bool.{Bool, true}
 use mathlib.Core.List.{List}
 use lib.ListN.{length, getD}
-use lib.Ieee.{Float, nan, inf, fin}
-use Rattle.complex.specs.Every.{every}
-
-unfoldable pub finiteF : Float → Bool
-finiteF nan = false
-finiteF (inf s) = false
-finiteF (fin s m e) = true
+use lib.Ieee.{Float, nan}
+use Rattle.lists.specs.Every.{every}
+use Rattle.float.specs.Size.{finiteF}
 
 -- the first n numbers are finite
 unfoldable pub finiteTo : List Float → ℕ → Bool

@@ -7,8 +7,10 @@ use mathlib.Core.List.{List}
 use lib.Dec.{T}
 use lib.ListN.{length}
 use lib.Ieee.{Float, le, toUnsigned, round, ofBits}
-use Rattle.float.specs.Ops.{_⊗_, _⊘_, bits, of, fraction, maxOf, one, eight}
+use Rattle.float.specs.Ops.{_⊗_, _⊘_, bits, of, fraction, one, eight}
+use Rattle.float.specs.Compare.{maxOf}
 use Rattle.float.specs.Whole.{roundOf}
+use Rattle.constants.specs.Constants.{EDGE_WINDOW_S}
 
 -- question 1: is fs a number from 2,000 to 192,000, ends included?
 unfoldable pub rateOk : Float → Bool
@@ -18,14 +20,6 @@ rateOk fs = le (of 2000) fs && le fs (of 192000)
 pub record Rate (fs : Float) : Type 0 where
   pub low : T (le (of 2000) fs)
   pub high : T (le fs (of 192000))
-
--- EDGE_WINDOW_S: 256.0 / 96_000.0
-unfoldable pub EDGE_WINDOW_S : Float
-EDGE_WINDOW_S = fraction 256 96000
-
-pub edge-window-bits : bits 0x3f65_d867_c3ec_e2a5 ≡ EDGE_WINDOW_S
-unfolding EDGE_WINDOW_S fraction round ofBits
-edge-window-bits = refl
 
 -- step: ((fs * EDGE_WINDOW_S) / 8.0).round().max(1.0) as usize
 unfoldable pub stepOf : Float → ℕ

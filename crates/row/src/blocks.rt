@@ -1,6 +1,7 @@
 // A recording derotated by a carrier, and its means over blocks. A carrier enters as cycles per sample.
 use crate::samples::at;
 use complex::Complex;
+use trig::TAU;
 ghost use mathlib.Core.Path.{_≡_};
 ghost use Prim.Native.Nat.{_+_, _*_, _<_, _≤_};
 ghost use lib.ListN.{length};
@@ -9,8 +10,6 @@ ghost use Rattle.complex.specs.Rows.{zFill};
 ghost use Rattle.row.specs.Window.{blocks};
 ghost use Rattle.row.specs.Samples.{Iq};
 ghost use Rattle.row.specs.Blocks.{rotorOf, derot, meanFrom, blockMean};
-
-const TAU: f64 = 6.28318530717958647692528676655900577;
 
 // Rust: rotor. The sine table is lent, so that it is made once and not at each call.
 pub fn rotor(cyc: f64, k: usize, sine: &[u64; 1025]) -> Complex

@@ -5,12 +5,12 @@ ghost use mathlib.Core.Path.{_≡_};
 ghost use Prim.Native.Nat.{_+_, _-_, _*_, _<_, _≤_};
 ghost use lib.ListN.{length};
 ghost use Rattle.complex.specs.Rows.{zAt, cSum, zFill};
-ghost use Rattle.complex.specs.Fill.{fill};
+ghost use Rattle.lists.specs.Fill.{fill};
 ghost use Rattle.trig.specs.Sine.{sineTable};
 ghost use Rattle.row.specs.Window.{blocks};
 ghost use Rattle.row.specs.Samples.{Iq};
 ghost use Rattle.row.specs.Blocks.{blockMean};
-ghost use Rattle.row.specs.Amplitudes.{movedBy, amplitude};
+ghost use Rattle.row.specs.Envelope.{movedBy, amplitude};
 
 // The sum of the n complex numbers of `row` from number a.
 fn total(row: &[f64], a: usize, n: usize) -> Complex

@@ -3,14 +3,8 @@ ghost use mathlib.Core.Path.{_≡_};
 ghost use Prim.Native.Nat.{_<_};
 ghost use lib.ListN.{length, getD};
 ghost use lib.Ieee.{nan};
-ghost use Rattle.row.specs.Samples.{finiteF, allFinite, Iq};
-
-fn finite(x: f32) -> bool
-    ensures { λ r. ⌜ r ≡ finiteF x ⌝ }
-{
-    let top = f32::from_bits(0x7f80_0000);
-    x < top && x > -top
-}
+ghost use Rattle.float.specs.Size.{finiteF};
+ghost use Rattle.row.specs.Samples.{allFinite, Iq};
 
 // Question 3. No early way out: without one the loop takes many samples a turn.
 pub fn all_finite(iq: &[f32]) -> bool
@@ -18,7 +12,7 @@ pub fn all_finite(iq: &[f32]) -> bool
 {
     let mut ok = true;
     for i in 0..iq.len() {
-        if !finite(iq[i]) {
+        if !float::finite_single(iq[i]) {
             ok = false;
         }
     }

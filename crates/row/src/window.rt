@@ -1,8 +1,7 @@
 // The sample rate, and the step of the edge window.
+use constants::EDGE_WINDOW_S;
 ghost use mathlib.Core.Path.{_≡_};
 ghost use Rattle.row.specs.Window.{rateOk, stepOf};
-
-const EDGE_WINDOW_S: f64 = 256.0 / 96_000.0;
 
 // Question 1. A NaN passes neither comparison.
 pub fn rate_ok(fs: f64) -> bool

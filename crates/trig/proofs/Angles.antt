@@ -16,12 +16,13 @@ use lib.Ieee.Exact.{HasValue}
 use lib.Ieee.Back.{round-whole}
 use lib.Ieee.Order.{round-mono, le-of-values}
 use lib.Ieee.Scale.{round-same}
-use Rattle.float.specs.Ops.{of, absOf, _⊕_, _⊖_, _⊗_, _⊘_}
+use Rattle.float.specs.Ops.{of, _⊕_, _⊖_, _⊗_, _⊘_}
+use Rattle.float.specs.Compare.{absOf}
 use Rattle.float.specs.Whole.{halfUp, roundOf, wholeBy}
 use Rattle.float.proofs.Exactly.{neg-round}
 use Rattle.float.proofs.Compared.{yes, le→value}
 use Rattle.trig.specs.Constants.{PI}
-use Rattle.trig.specs.Trig.{scaled, placed, restOf, indexOf, within}
+use Rattle.trig.specs.Circle.{scaled, placed, restOf, indexOf, within}
 use Rattle.float.proofs.Counts.{whole-value}
 use Rattle.float.proofs.Sums.{add-over, mul-over, sum-plus, sum-less}
 use Rattle.trig.proofs.Fractions.{shape, value-no-nan}

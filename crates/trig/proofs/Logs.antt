@@ -16,7 +16,7 @@ use lib.Ieee.Exact.{HasValue, round-exact}
 use Rattle.float.specs.Ops.{of, _⊖_, _⊗_}
 use Rattle.float.proofs.Exactly.{fits-says, zero-exp}
 use Rattle.float.proofs.Compared.{lt→cross, nlt→cross, cross→lt}
-use Rattle.trig.specs.Log.{octave, mantissaOf, exponentOf, logOf, log10Of}
+use Rattle.trig.specs.Logarithm.{octave, mantissaOf, exponentOf, logOf, log10Of}
 use Rattle.float.proofs.Sums.{mul-over}
 use Rattle.trig.proofs.Fractions.{value-no-nan}
 use Rattle.trig.proofs.Octaves.{minus-same, minus-plus, whole-less, offset, mantissa-is, exponent-is, fields, by-bits}

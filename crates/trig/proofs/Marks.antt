@@ -15,12 +15,13 @@ use lib.Ieee.Fits.{down-pos, add-fits}
 use lib.Ieee.Exact.{HasValue}
 use lib.Ieee.Nearest.{closest}
 use lib.Ieee.Back.{round-whole, positive-back, negative-back}
-use Rattle.float.specs.Ops.{of, absOf, _⊕_, _⊖_, _⊗_}
+use Rattle.float.specs.Ops.{of, _⊕_, _⊖_, _⊗_}
+use Rattle.float.specs.Compare.{absOf}
 use Rattle.float.specs.Whole.{halfUp, roundOf, wholeBy}
 use Rattle.float.proofs.Exactly.{round-value}
 use Rattle.float.proofs.Compared.{yes, cross→lt, le→value}
 use Rattle.float.proofs.Cuts.{round-at-one, closest-bounds, revalue}
-use Rattle.trig.specs.Trig.{within}
+use Rattle.trig.specs.Circle.{within}
 use Rattle.float.proofs.Counts.{whole-value}
 use Rattle.float.proofs.Digits.{size-gt}
 use Rattle.float.proofs.Sums.{add-over, sub-over, mul-over, sum-plus, sum-more}

@@ -19,7 +19,7 @@ use Rattle.float.specs.Ops.{of, fraction, _⊖_}
 use Rattle.float.proofs.Exactly.{fits-says, round-value}
 use Rattle.float.proofs.Cuts.{revalue}
 use Rattle.float.proofs.Compared.{cross→lt}
-use Rattle.trig.specs.Log.{octave, mantissaOf, exponentOf, Split}
+use Rattle.trig.specs.Logarithm.{octave, mantissaOf, exponentOf, Split}
 use Rattle.float.proofs.Counts.{whole-value}
 use Rattle.float.proofs.Digits.{size-gt}
 use Rattle.float.proofs.Sums.{sub-over}

@@ -9,9 +9,9 @@ use lib.Dec.{T, eqb→eq, leb, ltb, eqb, leb→le, nleb→lt, ltb→lt, nltb→l
 use borrow.Author.Tests.{lt-ltb}
 use lib.Ieee.{Float, nan, inf, fin, up, down, neg, lt, le, eq}
 use lib.Ieee.Fits.{down-pos, eq→eqb}
-use Rattle.float.specs.Ops.{absOf}
+use Rattle.float.specs.Compare.{absOf}
 use Rattle.float.proofs.Compared.{same-truth}
-use Rattle.trig.specs.Trig.{entryOf, sineAt, within}
+use Rattle.trig.specs.Circle.{entryOf, sineAt, within}
 
 -- ---- the place in the first quarter
 abbrev pub folded : ℕ → ℕ

@@ -14,11 +14,12 @@ use lib.Ieee.Bits.{cond-no}
 use lib.Ieee.Exact.{HasValue}
 use lib.Ieee.Back.{round-whole, unsigned-back}
 use lib.Ieee.Order.{round-mono}
-use Rattle.float.specs.Ops.{of, absOf, _⊗_, _⊘_}
+use Rattle.float.specs.Ops.{of, _⊗_, _⊘_}
+use Rattle.float.specs.Compare.{absOf}
 use Rattle.float.specs.Whole.{halfUp, roundOf, wholeBy}
 use Rattle.float.proofs.Compared.{le→value}
 use Rattle.trig.proofs.Marks.{in-float}
-use Rattle.trig.specs.Arg.{ratioOf, stepOf}
+use Rattle.trig.specs.Argument.{ratioOf, stepOf}
 use Rattle.float.proofs.Counts.{whole-value}
 use Rattle.float.proofs.Sums.{mul-over}
 use Rattle.trig.proofs.Fractions.{shape}

@@ -1,12 +1,11 @@
 // The argument of a complex number, by a table of 65 arctangents.
 use crate::choice::pick;
+use crate::constants::PI;
 use crate::table::ARCTAN;
 ghost use mathlib.Core.Path.{_≡_};
 ghost use Prim.Native.Nat.{_<_, _≤_};
 ghost use lib.Ieee.{toUnsigned};
-ghost use Rattle.trig.specs.Arg.{ratioOf, stepOf, awayOf, smallArctan, arctanAt, arctanOf, reflected, argOf};
-
-const PI: f64 = 3.14159265358979323846264338327950288;
+ghost use Rattle.trig.specs.Argument.{ratioOf, stepOf, awayOf, smallArctan, arctanAt, arctanOf, reflected, argOf};
 
 fn small_arctan(u: f64) -> f64
     ensures { λ r. ⌜ r ≡ smallArctan u ⌝ }

@@ -1,16 +1,16 @@
 // The sine and the cosine of an angle, by a table of 1,025 sines of the first quarter of a turn.
 use crate::choice::pick;
+use crate::constants::PI;
 ghost use mathlib.Core.Path.{_≡_};
 ghost use mathlib.Core.Bool.{true, cond};
 ghost use Prim.Native.Nat.{_-_, _%_, _<_};
 ghost use lib.Dec.{leb};
 ghost use lib.Ieee.{le};
-ghost use Rattle.float.specs.Ops.{of, absOf, _⊕_};
+ghost use Rattle.float.specs.Ops.{of, _⊕_};
+ghost use Rattle.float.specs.Compare.{absOf};
 ghost use Rattle.float.specs.Whole.{roundOf};
 ghost use Rattle.trig.specs.Sine.{sineTable};
-ghost use Rattle.trig.specs.Trig.{scaled, restOf, indexOf, within, smallSine, smallCosine, entryOf, sineAt, sinOf, cosOf};
-
-const PI: f64 = 3.14159265358979323846264338327950288;
+ghost use Rattle.trig.specs.Circle.{scaled, restOf, indexOf, within, smallSine, smallCosine, entryOf, sineAt, sinOf, cosOf};
 
 // 1.5 × 2^52: a sum with it from 2^52 up to 2^53 has no digit after the point, and its last digits are those of the
 // whole

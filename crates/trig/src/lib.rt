@@ -2,6 +2,7 @@
 pub mod argument;
 pub mod choice;
 pub mod circle;
+pub mod constants;
 pub mod logarithm;
 pub mod table;
 
@@ -10,6 +11,8 @@ pub use circle::SinCos;
 pub use circle::cos;
 pub use circle::sin;
 pub use circle::sin_cos;
+pub use constants::PI;
+pub use constants::TAU;
 pub use logarithm::log10;
 pub use table::SINE;
 pub use table::sine_table;

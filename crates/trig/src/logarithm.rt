@@ -1,12 +1,10 @@
 // The logarithm to base 10: of m by the series of the inverse hyperbolic tangent, and of 2^e by e.
+use crate::constants::LN_2;
+use crate::constants::LN_10;
 ghost use mathlib.Core.Path.{_≡_};
 ghost use Prim.Native.Nat.{_+_, _-_, _*_, _/_, _%_};
 ghost use Rattle.float.specs.Ops.{bits, of, _⊖_};
-ghost use Rattle.trig.specs.Log.{series, logOf, log10Of};
-
-const LN_2: f64 = 0.693147180559945309417232121458176568;
-
-const LN_10: f64 = 2.30258509299404568401799145468436421;
+ghost use Rattle.trig.specs.Logarithm.{series, logOf, log10Of};
 
 fn sum(q: f64) -> f64
     ensures { λ r. ⌜ r ≡ series q ⌝ }

@@ -1,7 +1,7 @@
 -- `cancel::questions::size_ok` meets its contract. Assumes nothing.
 use borrow.Author.Needs.{needs}
 use lib.Ieee.{ofBits}
-use Rattle.fits.specs.Interior.{sized}
+use Rattle.float.specs.Size.{sized}
 use Rattle.cancel.specs.Questions.{sizeOk}
 use Rattle.cancel.proofs.questions.size_ok.Statement.{statement}
 use Rattle.cancel.proofs.questions.size_ok.Tie as tie

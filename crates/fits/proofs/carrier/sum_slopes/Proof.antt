@@ -4,7 +4,8 @@ use mathlib.Core.Path.{_≡_, refl, ap₂}
 use borrow.Author.Needs.{needs}
 use Rattle.float.specs.Ops.{_⊗_, zero}
 use Rattle.fits.specs.Lists.{fitsIn}
-use Rattle.fits.specs.Carrier.{fitWeight, weightedSlope, sumOver}
+use Rattle.fits.specs.Carrier.{fitWeight, weightedSlope}
+use Rattle.lists.specs.Sums.{sumOver}
 use Rattle.fits.proofs.Carriers.{over-none, over-turn, over-done}
 use Rattle.fits.proofs.carrier.sum_slopes.Statement.{statement}
 use Rattle.fits.proofs.carrier.sum_slopes.Tie as tie

@@ -1,5 +1,5 @@
 use borrow.Author.Needs.{needs}
-use Rattle.trig.specs.Constants.{tau-bits}
+use Rattle.trig.proofs.Bits.{tau-bits}
 use Rattle.fits.specs.Gain.{hann}
 use Rattle.fits.proofs.gain.hann_weight.Statement.{statement}
 use Rattle.fits.proofs.gain.hann_weight.Tie as tie

@@ -4,7 +4,7 @@ use native.Mathlib.Omega.{arith}
 use mathlib.Core.Path.{_≡_}
 use Rattle.float.specs.Ops.{zero}
 use Rattle.complex.specs.Rows.{cSum}
-use Rattle.fits.specs.Sums.{fSum}
+use Rattle.lists.specs.Sums.{fSum}
 use Rattle.fits.specs.Gain.{hann, leveled, gainSum, hannSum}
 use Rattle.fits.proofs.Laws.{laws}
 use Rattle.fits.proofs.gain.weigh.Statement.{statement}

@@ -1,5 +1,5 @@
 use borrow.Author.Needs.{needs}
-use Rattle.fits.specs.Constants.{min-interior-bits}
+use Rattle.constants.proofs.Bits.{min-interior-bits}
 use Rattle.fits.specs.Interior.{minLen}
 use Rattle.fits.proofs.interior.min_len.Statement.{statement}
 use Rattle.fits.proofs.interior.min_len.Tie as tie

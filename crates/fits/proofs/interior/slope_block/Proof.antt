@@ -1,5 +1,5 @@
 use borrow.Author.Needs.{needs}
-use Rattle.fits.specs.Constants.{slope-block-bits}
+use Rattle.constants.proofs.Bits.{slope-block-bits}
 use Rattle.fits.specs.Interior.{blockOf}
 use Rattle.fits.proofs.interior.slope_block.Statement.{statement}
 use Rattle.fits.proofs.interior.slope_block.Tie as tie

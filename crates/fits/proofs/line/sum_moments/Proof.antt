@@ -2,7 +2,7 @@
 use Prim.Native.Nat.{_≤_, _-_}
 use mathlib.Core.Path.{_≡_, refl, ap, ap₂}
 use Rattle.float.specs.Ops.{_⊖_, _⊗_}
-use Rattle.fits.specs.Sums.{fSum-turn}
+use Rattle.lists.proofs.Sums.{fSum-turn}
 use Rattle.fits.specs.Line.{phaseIn, weightIn, timeOf, moment}
 use Rattle.fits.proofs.Laws.{laws}
 use Rattle.fits.proofs.line.sum_moments.Statement.{statement}

@@ -2,7 +2,8 @@
 use Prim.Native.Nat.{_≤_, _-_}
 use mathlib.Core.Path.{_≡_, refl, ap, ap₂}
 use lib.Ieee.{mul, binary64}
-use Rattle.fits.specs.Sums.{total, fSum-turn}
+use Rattle.lists.specs.Sums.{total}
+use Rattle.lists.proofs.Sums.{fSum-turn}
 use Rattle.fits.specs.Line.{phaseIn, weightIn, timeOf, weighted}
 use Rattle.fits.proofs.Laws.{laws}
 use Rattle.fits.proofs.line.sum_points.Statement.{statement}

@@ -4,7 +4,7 @@ use mathlib.Core.Bool.{Bool, true, false, cond}
 use lib.Ieee.{Float, nan, lt, isNan}
 use lib.Ieee.Bits.{is-false}
 use lib.Ieee.Compare.{differs-from-itself}
-use Rattle.float.specs.Ops.{maxOf}
+use Rattle.float.specs.Compare.{maxOf}
 use Rattle.float.proofs.Compared.{yes}
 use Rattle.float.proofs.Value.{no-nan}
 use Rattle.float.proofs.compare.max.Statement.{statement}

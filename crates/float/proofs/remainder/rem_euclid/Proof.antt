@@ -3,8 +3,9 @@ use mathlib.Core.Path.{_≡_, sym, ap, _∙_}
 use mathlib.Core.Bool.{Bool, true, false, cond}
 use borrow.Author.Needs.{needs}
 use lib.Ieee.{Float, binary64, lt, add, rem}
-use Rattle.float.specs.Ops.{absOf, zero}
-use Rattle.float.specs.Rem.{remEuclidOf}
+use Rattle.float.specs.Compare.{absOf}
+use Rattle.float.specs.Ops.{zero}
+use Rattle.float.specs.Remainder.{remEuclidOf}
 use Rattle.float.proofs.remainder.rem_euclid.Statement.{statement}
 use Rattle.float.proofs.remainder.rem_euclid.Tie as tie
 

@@ -6,7 +6,7 @@ use native.Mathlib.Omega.{arith}
 use borrow.Author.Needs.{needs}
 use lib.Dec.{T, ltb, ltb→lt, nltb→le}
 use mir.Val.{boolByte}
-use Rattle.float.specs.RootSteps.{Rooted}
+use Rattle.float.specs.Inner.{Rooted}
 use Rattle.float.proofs.Squares.{Guess, guess, square-pred}
 use Rattle.float.proofs.root.extend_root.Statement.{statement}
 use Rattle.float.proofs.root.extend_root.Tie as tie

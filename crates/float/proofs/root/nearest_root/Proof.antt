@@ -3,7 +3,7 @@ use Prim.Native.Nat.{ℕ, _*_, _^_}
 use mathlib.Core.Path.{subst}
 use native.Mathlib.Omega.{arith}
 use borrow.Author.Needs.{needs}
-use Rattle.float.specs.RootSteps.{Rooted}
+use Rattle.float.specs.Inner.{Rooted}
 use Rattle.float.proofs.Squares.{root-small, root-large, near-down, near-up}
 use Rattle.float.proofs.root.nearest_root.Statement.{statement}
 use Rattle.float.proofs.root.nearest_root.Tie as tie

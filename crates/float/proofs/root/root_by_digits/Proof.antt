@@ -5,7 +5,7 @@ use mathlib.Core.Path.{_≡_, refl, sym, ap, _∙_, subst}
 use native.Mathlib.Nat.{lt-of-le-of-lt, div-one}
 use native.Mathlib.Omega.{arith}
 use lib.Pow.{shr-le, shr-shr}
-use Rattle.float.specs.RootSteps.{Rooted}
+use Rattle.float.specs.Inner.{Rooted}
 use Rattle.float.proofs.Squares.{digit-one, digit-zero, root-small}
 use Rattle.float.proofs.root.root_by_digits.Statement.{statement}
 use Rattle.float.proofs.root.root_by_digits.Tie as tie

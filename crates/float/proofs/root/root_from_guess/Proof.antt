@@ -3,7 +3,7 @@ use Prim.Native.Nat.{ℕ, _-_, _*_, _<_}
 use native.Mathlib.Nat.{le-of-lt, mul-le-mul}
 use native.Mathlib.Omega.{arith}
 use borrow.Author.Needs.{needs}
-use Rattle.float.specs.RootSteps.{Rooted}
+use Rattle.float.specs.Inner.{Rooted}
 use Rattle.float.proofs.Squares.{square-pred}
 use Rattle.float.proofs.root.root_from_guess.Statement.{statement}
 use Rattle.float.proofs.root.root_from_guess.Tie as tie

@@ -8,7 +8,7 @@ use borrow.Author.Needs.{needs}
 use borrow.Author.Tests.{lt-ltb, le-ltb}
 use lib.Pow.{pow-add, pow-mono, shl-lt, shl-exact}
 use lib.Count.{leadingZeros, leading-le, leading-top}
-use Rattle.float.specs.RootSteps.{Scaled, counted}
+use Rattle.float.specs.Inner.{Scaled, counted}
 use Rattle.float.proofs.root.split_bits.Statement.{statement}
 use Rattle.float.proofs.root.split_bits.Tie as tie
 

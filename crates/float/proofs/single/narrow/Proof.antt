@@ -7,7 +7,7 @@ use lib.Dec.{T}
 use lib.Ieee.{binary64, fits, isNan, ofBits, toBits, div}
 use lib.Ieee.Bits.{ofBits-toBits, toBits-lt}
 use lib.Ieee.Compare.{differs-from-itself}
-use Rattle.float.specs.Narrow.{narrowOf}
+use Rattle.float.specs.Single.{narrowOf}
 use Rattle.float.proofs.Compared.{yes, no}
 use Rattle.float.proofs.Narrowing.{with-sign, not-nan, magnitude-le, pattern-ok}
 use Rattle.float.proofs.single.narrow.Statement.{statement}

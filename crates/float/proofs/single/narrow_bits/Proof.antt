@@ -7,7 +7,7 @@ use native.Mathlib.Omega.{arith}
 use borrow.Author.Needs.{needs}
 use lib.Dec.{lit<}
 use lib.Pow.{pow-pos, pow-mono}
-use Rattle.float.specs.Narrow.{Narrowed}
+use Rattle.float.specs.Single.{Narrowed}
 use Rattle.float.proofs.Narrowing.{normal, over, sub, tiny}
 use Rattle.float.proofs.single.narrow_bits.Statement.{statement}
 use Rattle.float.proofs.single.narrow_bits.Tie as tie

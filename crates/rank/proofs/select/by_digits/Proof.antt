@@ -7,7 +7,7 @@ use borrow.Author.Needs.{needs}
 use lib.Pow.{pow-pos}
 use lib.ListN.{length, getD}
 use lib.Ieee.{nan}
-use Rattle.rank.specs.Keys.{keyAt, cell, Within, Selected}
+use Rattle.rank.specs.Inner.{keyAt, cell, Within, Selected}
 use Rattle.rank.proofs.Keyed.{key-lt}
 use Rattle.rank.proofs.Counted.{within-all, within-turn, within-one, cell-room, place-lt, place-pow, place-first, prefix}
 use Rattle.rank.proofs.Sorted.{held, selected}

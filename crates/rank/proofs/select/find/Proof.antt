@@ -4,7 +4,7 @@ use mathlib.Core.Path.{_≡_, sym, ap, _∙_}
 use native.Mathlib.Omega.{arith}
 use borrow.Author.Needs.{needs}
 use lib.ListN.{length}
-use Rattle.rank.specs.Keys.{keyAt, cell}
+use Rattle.rank.specs.Inner.{keyAt, cell}
 use Rattle.rank.proofs.Counted.{cell-none, cell-other, found}
 use Rattle.rank.proofs.select.find.Statement.{statement}
 use Rattle.rank.proofs.select.find.Tie as tie

@@ -7,7 +7,7 @@ use lib.Ieee.{nan, binary64, fits}
 use lib.Ieee.Bits.{toBits-lt}
 use lib.Ieee.Compare.{differs-from-itself}
 use Rattle.float.proofs.Value.{no-nan}
-use Rattle.rank.specs.Keys.{keyOf}
+use Rattle.rank.specs.Inner.{keyOf}
 use Rattle.rank.proofs.Keyed.{key-nan, key-number, key-plus, key-minus}
 use Rattle.rank.proofs.select.key.Statement.{statement}
 use Rattle.rank.proofs.select.key.Tie as tie

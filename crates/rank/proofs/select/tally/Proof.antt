@@ -7,7 +7,7 @@ use borrow.Author.Needs.{needs}
 use lib.Dec.{eqb}
 use lib.Pow.{pow-pos}
 use lib.ListN.{length}
-use Rattle.rank.specs.Keys.{Histogram}
+use Rattle.rank.specs.Inner.{Histogram}
 use Rattle.rank.proofs.Counted.{histogram-turn, histogram-room, power-most}
 use Rattle.rank.proofs.select.tally.Statement.{statement}
 use Rattle.rank.proofs.select.tally.Tie as tie

@@ -3,7 +3,7 @@ use Prim.Native.Nat.{ℕ}
 use mathlib.Core.Path.{_≡_, refl, sym, ap, _∙_}
 use borrow.Author.Needs.{needs}
 use lib.Ieee.{nan, binary64, div, ofBits}
-use Rattle.rank.specs.Keys.{valueOf}
+use Rattle.rank.specs.Inner.{valueOf}
 use Rattle.rank.proofs.Keyed.{value-nan, value-low, value-high, low-number, high-number, key-under}
 use Rattle.rank.proofs.select.value.Statement.{statement}
 use Rattle.rank.proofs.select.value.Tie as tie

@@ -4,7 +4,7 @@ use mathlib.Core.Path.{_≡_, sym, ap, _∙_}
 use native.Mathlib.Omega.{arith}
 use borrow.Author.Needs.{needs}
 use lib.ListN.{getD}
-use Rattle.rank.specs.Keys.{sumTo, Passed}
+use Rattle.rank.specs.Inner.{sumTo, Passed}
 use Rattle.rank.proofs.Counted.{sum-none, sum-turn}
 use Rattle.rank.proofs.select.walk.Statement.{statement}
 use Rattle.rank.proofs.select.walk.Tie as tie

@@ -2,7 +2,7 @@
 use Prim.Native.Nat.{_≤_, _-_, _/_}
 use mathlib.Core.Path.{_≡_}
 use lib.ListN.{length}
-use Rattle.complex.specs.Fill.{fill}
+use Rattle.lists.specs.Fill.{fill}
 use Rattle.report.specs.Bytes.{partAt}
 use Rattle.report.proofs.Laws.{laws}
 use Rattle.report.proofs.bytes.samples.Statement.{statement}

@@ -1,5 +1,5 @@
 use borrow.Author.Needs.{needs}
-use Rattle.trig.specs.Constants.{tau-bits}
+use Rattle.trig.proofs.Bits.{tau-bits}
 use Rattle.row.specs.Blocks.{rotorOf}
 use Rattle.row.proofs.blocks.rotor.Statement.{statement}
 use Rattle.row.proofs.blocks.rotor.Tie as tie

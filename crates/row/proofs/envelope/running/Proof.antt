@@ -5,8 +5,8 @@ use native.Mathlib.Omega.{arith}
 use mathlib.Core.Path.{_≡_}
 use lib.ListN.{length}
 use Rattle.complex.specs.Rows.{zAt}
-use Rattle.complex.specs.Fill.{fill}
-use Rattle.row.specs.Amplitudes.{runOf, amplitude}
+use Rattle.lists.specs.Fill.{fill}
+use Rattle.row.specs.Envelope.{runOf, amplitude}
 use Rattle.row.proofs.Laws.{laws}
 use Rattle.row.proofs.Running.{run-turn, row-done}
 use Rattle.row.proofs.envelope.running.Statement.{statement}

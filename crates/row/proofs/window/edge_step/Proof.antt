@@ -1,5 +1,6 @@
 use borrow.Author.Needs.{needs}
-use Rattle.row.specs.Window.{stepOf, edge-window-bits}
+use Rattle.row.specs.Window.{stepOf}
+use Rattle.constants.proofs.Bits.{edge-window-bits}
 use Rattle.row.proofs.window.edge_step.Statement.{statement}
 use Rattle.row.proofs.window.edge_step.Tie as tie
 

@@ -3,7 +3,7 @@ use mathlib.Core.Path.{_≡_, ap, _∙_}
 use Prim.Native.Nat.{ℕ, _≤_, _<_}
 use native.Mathlib.Omega.{arith}
 use lib.Ieee.{ofBits, ofInt, toUnsigned}
-use Rattle.trig.specs.Arg.{arctanOf}
+use Rattle.trig.specs.Argument.{arctanOf}
 use borrow.Author.Needs.{needs}
 use Rattle.trig.proofs.argument.arctan.Statement.{statement}
 use Rattle.trig.proofs.argument.arctan.Tie as tie

@@ -1,6 +1,6 @@
 -- `trig::argument::arg` meets its contract. Assumes nothing.
 use mathlib.Core.Logic.{⊎-elim}
-use Rattle.trig.specs.Arg.{argOf}
+use Rattle.trig.specs.Argument.{argOf}
 use borrow.Author.Needs.{needs}
 use Rattle.trig.proofs.argument.arg.Statement.{statement}
 use Rattle.trig.proofs.argument.arg.Tie as tie

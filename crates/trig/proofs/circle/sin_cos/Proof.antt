@@ -1,7 +1,7 @@
 -- `trig::circle::sin_cos` meets its contract. Assumes nothing.
 use mathlib.Core.Path.{_∙_}
 use lib.Ieee.{ofBits, ofInt, neg}
-use Rattle.trig.specs.Trig.{sinOf, cosOf}
+use Rattle.trig.specs.Circle.{sinOf, cosOf}
 use Rattle.trig.proofs.Quarters.{two-tests}
 use borrow.Author.Needs.{needs}
 use Rattle.trig.proofs.circle.sin_cos.Statement.{statement}

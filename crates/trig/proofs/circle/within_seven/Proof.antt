@@ -1,5 +1,5 @@
 -- `trig::circle::within_seven` meets its contract: each callee's answer in its place. Assumes nothing.
-use Rattle.trig.specs.Trig.{sinOf, cosOf}
+use Rattle.trig.specs.Circle.{sinOf, cosOf}
 use Rattle.trig.proofs.Quarters.{further}
 use borrow.Author.Needs.{needs}
 use Rattle.trig.proofs.circle.within_seven.Statement.{statement}

@@ -1,7 +1,7 @@
 -- `trig::logarithm::sum` meets its contract. Assumes nothing.
 use mathlib.Core.Path.{refl}
 use lib.Ieee.{ofBits, ofInt}
-use Rattle.trig.specs.Log.{series}
+use Rattle.trig.specs.Logarithm.{series}
 use Rattle.trig.proofs.logarithm.sum.Statement.{statement}
 use Rattle.trig.proofs.logarithm.sum.Tie as tie
 

@@ -5,7 +5,7 @@ use mathlib.Core.List.{List, [], _∷_, _++_}
 use lib.Ieee.{Float}
 use Rattle.float.specs.Ops.{_⊘_, eight}
 use Rattle.complex.specs.declared.value.Complex.{Complex}
-use Rattle.complex.specs.Cx.{cAdd, cSub, cDiv, cNorm}
+use Rattle.complex.specs.Value.{cAdd, cSub, cDiv, cNorm}
 use Rattle.complex.specs.Rows.{cSum}
 use Rattle.row.specs.Window.{stepOf, stepBlocks}
 use Rattle.row.specs.Blocks.{blockMean}
@@ -29,8 +29,3 @@ rowOf iq fs carrier = amplitude (blockMean iq (carrier ⊘ fs) (stepOf fs))
 -- how many the row holds: B − 7, which is none for n < window, as B is then at most 7
 abbrev pub rowLength : List Float → Float → ℕ
 rowLength iq fs = stepBlocks iq fs - 7
-
--- the first n numbers of a row, as a list
-unfoldable pub listOf : (ℕ → Float) → ℕ → List Float
-listOf f zero = []
-listOf f (suc n) = listOf f n ++ (f n ∷ [])

@@ -1,7 +1,7 @@
 use lib.Ieee.{nanBits, ofBits, neg}
-use Rattle.row.proofs.Finite.{below-top, not-below-top}
-use Rattle.row.proofs.samples.finite.Statement.{statement}
-use Rattle.row.proofs.samples.finite.Tie as tie
+use Rattle.float.proofs.Finiteness.{below-top, not-below-top}
+use Rattle.float.proofs.size.finite.Statement.{statement}
+use Rattle.float.proofs.size.finite.Tie as tie
 
 float-from-bits-top : tie.Need-float-from-bits-top
 unfolding nanBits

@@ -8,7 +8,8 @@ use mathlib.Core.List.{List}
 use lib.Dec.{T, ltb, eqb}
 use lib.ListN.{length, getD}
 use lib.Ieee.{Float, nan, binary64, isNan, fits, toBits, ofBits}
-use Rattle.rank.specs.Order.{sorted, countTo}
+use Rattle.rank.specs.Order.{sorted}
+use Rattle.lists.specs.Count.{countTo}
 
 -- The key of a bit pattern: from 2^63 up without the sign, and from there down with it. A NaN's is the largest.
 abbrev pub keyBits : ℕ → ℕ

@@ -1,21 +1,12 @@
--- Sums of f64, term by term from the left.
+-- Sums of f64: a loop that adds.
 use Prim.Native.Nat.{ℕ, zero, suc, _+_, _<_, _≤_}
 use native.Mathlib.Numerals.{add-one}
 use native.Mathlib.Omega.{arith}
 use mathlib.Core.Path.{_≡_, refl}
+use mathlib.Core.List.{List, [], _∷_, _++_}
 use lib.Ieee.{Float}
-use Rattle.float.specs.Ops.{_⊕_, minus-zero}
-
--- start, then f 0, f 1, .. added to it, n terms
-unfoldable pub fSum : Float → (ℕ → Float) → ℕ → Float
-fSum start f zero = start
-fSum start f (suc n) = fSum start f n ⊕ f n
-
--- Rust's `.sum()` of f64 starts at −0.0
-abbrev pub total : (ℕ → Float) → ℕ → Float
-total = fSum minus-zero
-
--- ---- laws: before a loop that sums, a turn of it, and after it
+use Rattle.float.specs.Ops.{_⊕_}
+use Rattle.lists.specs.Sums.{fSum, sumOver}
 
 pub fSum-none : (start : Float) (f : ℕ → Float) → start ≡ fSum start f 0
 unfolding fSum
@@ -32,3 +23,9 @@ pub fSum-cong : (start : Float) (f g : ℕ → Float) (n : ℕ) → ((k : ℕ) �
 unfolding fSum
 fSum-cong start f g zero h = refl
 fSum-cong start f g (suc n) h = rw (fSum-cong start f g n (λ k b. h k (omega arith)), h n (omega arith))
+
+-- one more at the end of a list
+pub over-more : {A : Type 0} (figure : A → Float) (start : Float) (xs : List A) (x : A) → sumOver figure start (xs ++ (x ∷ [])) ≡ sumOver figure start xs ⊕ figure x
+unfolding sumOver
+over-more figure start [] x = refl
+over-more figure start (y ∷ xs) x = over-more figure (start ⊕ figure y) xs x

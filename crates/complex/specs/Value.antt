@@ -3,9 +3,9 @@
 use lib.Ieee.{Float, neg, binary64}
 use Rattle.complex.specs.declared.value.Complex.{Complex}
 use Rattle.float.specs.Ops.{_⊕_, _⊖_, _⊗_, _⊘_, zero}
-use Rattle.float.specs.Sqrt.{sqrtOf}
-use Rattle.trig.specs.Trig.{sinOf, cosOf}
-use Rattle.trig.specs.Arg.{argOf}
+use Rattle.float.specs.Root.{sqrtOf}
+use Rattle.trig.specs.Circle.{sinOf, cosOf}
+use Rattle.trig.specs.Argument.{argOf}
 
 abbrev pub cNew : Float → Float → Complex
 cNew x y = record { re = x; im = y }

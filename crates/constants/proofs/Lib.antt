@@ -1,0 +1,2 @@
+-- Bits      the bit pattern of each constant
+pub mod Bits

@@ -1,0 +1,2 @@
+-- What the rules say by name.
+pub mod Constants

@@ -1,0 +1,15 @@
+-- Laws on rows and lists that the crates above cite, by subject.
+
+-- Fill      a loop that stores: `fill-none`, `fill-turn`, `fill-done`; `length-fill`, `fill-cong`; what is read back:
+--           `getD-fill`, `getD-fill-below`, `getD-fill-above`; a part of the list: `part-fill`
+-- Firsts    `length-firsts`, `getD-firsts`, `firsts-cong`, `firsts-take`, `firsts-all`
+-- Every     `every-at`, `every-not`, `every-cong`; the halves of an && that is true: `and-left`, `and-right`
+-- Count     `count-cong`, `count-le`, `count-most`, `count-apart`
+-- Those     `those-append`, `those-shorter`; `picked-cong`, `length-picked`
+-- Sums      loops that add: `fSum-none`, `fSum-turn`, `fSum-done`, `fSum-cong`; `over-more`
+pub mod Fill
+pub mod Firsts
+pub mod Every
+pub mod Count
+pub mod Those
+pub mod Sums
