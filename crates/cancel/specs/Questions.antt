@@ -11,7 +11,7 @@ use Rattle.float.specs.Ops.{_⊘_, zero, two}
 use Rattle.float.specs.Compare.{absOf}
 use Rattle.float.specs.Whole.{floorOf}
 use Rattle.lists.specs.Every.{every}
-use Rattle.float.specs.Size.{finiteF, sized}
+use Rattle.float.specs.Size.{finiteF, sized, 2^}
 use Rattle.row.specs.Samples.{allFinite}
 use Rattle.row.specs.Window.{rateOk, stepBlocks}
 use Rattle.elements.specs.declared.element.KeyedElement.{KeyedElement}
