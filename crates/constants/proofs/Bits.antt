@@ -2,7 +2,7 @@
 use mathlib.Core.Path.{_≡_, refl}
 use lib.Ieee.{ofBits, round, ofInt, neg, div}
 use Rattle.float.specs.Ops.{bits, fraction}
-use Rattle.constants.specs.Constants.{EDGE_WINDOW_S, RISE_S, MAX_CARRIER_STEP_HZ, MIN_INTERIOR_S, SLOPE_BLOCK_S, RIM_S, EDGE_ZONE_S, EDGE_PERCENTILE, CLEAN_EDGE_OVER_NEIGHBOUR_DB, CLEAN_INTERIOR_OVER_NEIGHBOUR_DB, NEIGHBOUR_PERCENTILE, ONE_SIGNAL_MAX_HOT, NON_CW_MIN_HOT, MIN_COHERENCE, MIN_OFFSET_HZ, MAX_OFFSET_HZ, HOT_FACTOR, PAIR_FACTOR, REFERENCE_OFFSET_HZ}
+use Rattle.constants.specs.Constants.{EDGE_WINDOW_S, RISE_S, MAX_CARRIER_STEP_HZ, MIN_INTERIOR_S, SLOPE_BLOCK_S, RIM_S, EDGE_ZONE_S, EDGE_PERCENTILE, CLEAN_EDGE_OVER_NEIGHBOUR_DB, CLEAN_INTERIOR_OVER_NEIGHBOUR_DB, NEIGHBOUR_PERCENTILE, ONE_SIGNAL_MAX_HOT, NON_CW_MIN_HOT, MIN_COHERENCE, MIN_OFFSET_HZ, MAX_OFFSET_HZ, HOT_FACTOR, PAIR_FACTOR, REFERENCE_OFFSET_HZ, MIN_POSITIVE}
 
 pub edge-window-bits : EDGE_WINDOW_S ≡ bits 0x3f65_d867_c3ec_e2a5
 unfolding EDGE_WINDOW_S fraction round ofBits ofInt neg div
@@ -79,3 +79,7 @@ pair-factor-bits = refl
 pub reference-offset-bits : REFERENCE_OFFSET_HZ ≡ bits 0x407f_4000_0000_0000
 unfolding REFERENCE_OFFSET_HZ fraction round ofBits ofInt neg div
 reference-offset-bits = refl
+
+pub min-positive-bits : MIN_POSITIVE ≡ bits 0x0010_0000_0000_0000
+unfolding MIN_POSITIVE fraction round ofBits
+min-positive-bits = refl

@@ -1,6 +1,6 @@
 -- The constants of cancel.rs (01: "Constants are those at the head of cancel.rs"): each is the f64 nearest to what the
 -- Rust writes. src/lib.rt says what each is for; `proofs/Bits.antt` shows the bit pattern of each.
-use Prim.Native.Nat.{ℕ}
+use Prim.Native.Nat.{ℕ, _^_}
 use lib.Ieee.{Float, neg}
 use Rattle.float.specs.Ops.{_⊘_, of, fraction, two}
 
@@ -83,3 +83,7 @@ PAIR_FACTOR = of 10
 -- REFERENCE_OFFSET_HZ: 500.0
 unfoldable pub REFERENCE_OFFSET_HZ : Float
 REFERENCE_OFFSET_HZ = of 500
+
+-- f64::MIN_POSITIVE: 2^−1022
+unfoldable pub MIN_POSITIVE : Float
+MIN_POSITIVE = fraction 1 (2 ^ 1022)

@@ -6,10 +6,13 @@
 -- Every     `every-at`, `every-not`, `every-cong`; the halves of an && that is true: `and-left`, `and-right`
 -- Count     `count-cong`, `count-le`, `count-most`, `count-apart`
 -- Those     `those-append`, `those-shorter`; `picked-cong`, `length-picked`
+-- Kept      the loop that stores what passes: `keep-none`, `keep-yes`, `keep-no`, `keep-done`; `length-keep`, `keep-part`,
+--           `getD-keep`, `getD-keep-below`
 -- Sums      loops that add: `fSum-none`, `fSum-turn`, `fSum-done`, `fSum-cong`; `over-more`
 pub mod Fill
 pub mod Firsts
 pub mod Every
 pub mod Count
 pub mod Those
+pub mod Kept
 pub mod Sums

@@ -7,7 +7,7 @@ use mathlib.Core.List.{List}
 use lib.Dec.{T}
 use lib.ListN.{length}
 use lib.Ieee.{Float, le, toUnsigned, round, ofBits}
-use Rattle.float.specs.Ops.{_⊗_, _⊘_, bits, of, fraction, one, eight}
+use Rattle.float.specs.Ops.{_⊕_, _⊖_, _⊗_, _⊘_, bits, of, fraction, one, two, eight}
 use Rattle.float.specs.Compare.{maxOf}
 use Rattle.float.specs.Whole.{roundOf}
 use Rattle.constants.specs.Constants.{EDGE_WINDOW_S}
@@ -28,6 +28,10 @@ stepOf fs = toUnsigned 64 (maxOf (roundOf ((fs ⊗ EDGE_WINDOW_S) ⊘ eight)) on
 -- window = 8 × step
 abbrev pub windowOf : Float → ℕ
 windowOf fs = 8 * stepOf fs
+
+-- the centre of the len samples from sample a on
+abbrev pub centreOf : ℕ → ℕ → Float
+centreOf a len = of a ⊕ (of len ⊖ one) ⊘ two
 
 -- n, the number of complex samples of a recording that is lent as 2 n f32
 abbrev pub samples : List Float → ℕ

@@ -1,0 +1,3 @@
+-- What the contracts of `classes` cite.
+pub mod Class
+pub mod Classify
