@@ -23,7 +23,7 @@ use Rattle.float.specs.Single.{narrowOf}
 use Rattle.float.specs.Root.{sqrtOf}
 use Rattle.float.proofs.Squares.{square-lt-back}
 use Rattle.float.proofs.Cuts.{revalue}
-use Rattle.float.proofs.Meaning.{sqrt-nearest}
+use Rattle.float.proofs.Meaning.{root-of-units}
 use Rattle.float.proofs.Exactly.{fits-parts, exponent, neg-round}
 use Rattle.float.proofs.Monotone.{le-fin, fin-le}
 use Rattle.float.proofs.Picks.{wholly, floor-pick, ceil-pick, round-pick, floor-steps, ceil-steps, round-steps, floor-is, ceil-is, round-is, Steps}
@@ -258,7 +258,7 @@ root-within f m e k K t M h =
     let j = exponent f m e (w .1) in
     let a = m * 2 ^ j .0 in
     let v : HasValue x false a (2 ^ l) = (refl, j .1) in
-    let g = sqrt-nearest f x a t (mul-pos M (pow-pos (j .0))) v in
+    let g = root-of-units f x a t (mul-pos M (pow-pos (j .0))) v in
     let b = 2 ^ k * 2 ^ l in
     let n : a * 2 ^ l ≤ b * b =
     le-trans

@@ -1,10 +1,9 @@
 -- The single operations of IEEE 754 at 64 bits, the f64 nearest to a fraction of whole numbers, and the small
 -- literals of the code. Definitions only, and what each literal is.
 use Prim.Native.Nat.{ℕ}
-use mathlib.Core.Path.{_≡_, refl}
-use mathlib.Core.Bool.{false, cond}
+use mathlib.Core.Bool.{false}
 use lib.IntN.{pos}
-use lib.Ieee.{Float, nan, inf, fin, binary64, add, sub, mul, div, neg, lt, isNan, ofInt, ofBits, round}
+use lib.Ieee.{Float, binary64, add, sub, mul, div, ofInt, ofBits, round}
 
 infixl 6 _⊕_
 abbrev pub _⊕_ : Float → Float → Float

@@ -1,11 +1,11 @@
 // Whole numbers: Rust's floor, ceil, round and `as usize`, and a whole number as an f64.
 ghost use mathlib.Core.Path.{_≡_};
 ghost use Prim.Native.Nat.{_≤_};
-ghost use mathlib.Core.Bool.{true, false};
+ghost use mathlib.Core.Bool.{false};
 ghost use lib.IntN.{pos};
 ghost use lib.Dec.{T};
 ghost use lib.Ieee as Ieee;
-ghost use lib.Ieee.{fin, binary64};
+ghost use lib.Ieee.{fin};
 ghost use Rattle.float.specs.Ops.{of};
 ghost use Rattle.float.specs.Whole.{cut, lifted, halfUp, wholeBy, floorOf, ceilOf, roundOf};
 

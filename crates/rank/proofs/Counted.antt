@@ -1,8 +1,8 @@
 -- Counting: cells of keys that lie side by side add up (`below-next`, `below-split`), a histogram takes up one key
 -- more (`histogram-turn`) and sums to what lies below a digit (`histogram-sum`). Assumes nothing.
 use mathlib.Core.Path.{_≡_, refl, sym, ap, _∙_, subst}
-use mathlib.Core.Logic.{_⊎_, inl, inr}
-use mathlib.Core.Bool.{Bool, true, false, not, cond}
+use mathlib.Core.Logic.{inl, inr}
+use mathlib.Core.Bool.{Bool, true, false}
 use mathlib.Core.List.{List}
 use Prim.Native.Nat.{ℕ, zero, suc, _+_, _-_, _*_, _/_, _%_, _^_, _≤_, _<_, zero-le}
 use native.Mathlib.Nat.{lt-irrefl, suc-mul, mul-le-mul-right, le-add-right, lt-div-mul-add, le-refl, le-of-lt, le-of-suc-le-suc, lt-of-le-of-lt, lt-of-lt-of-le, eq-or-lt-of-le, add-mul, one-mul, mod-eq-of-lt, mod-eq-sub-div-mul, div-eq-of-lt, div-add-mod', div-mul-le-self, div-le-self, add-zero, add-assoc, div-one, div-div-eq-div-mul, div-lt-iff-lt-mul}
@@ -12,7 +12,7 @@ use native.Mathlib.Omega.{arith}
 use borrow.Author.Tests.{lt-ltb, le-ltb, eq-eqb, ne-eqb, eqb-true, ltb-true}
 use lib.Pow.{pow-add, pow-mono}
 use lib.Arith.{digits-div, digits-mod, le-zero}
-use lib.Dec.{T, ltb, eqb, lit<, lit≤}
+use lib.Dec.{ltb, eqb, lit≤}
 use lib.ListN.{length, getD, set, length-set, replicate, length-replicate, getD-replicate}
 use lib.Seq.{getD-set-same, getD-set-other}
 use lib.Ieee.{Float}

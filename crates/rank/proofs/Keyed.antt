@@ -1,14 +1,14 @@
 -- Keys stand in the order of the values (`precedes-key`), and a key gives its value back (`value-key`), which is one
 -- that a value can have (`is-key`). Assumes nothing.
 use mathlib.Core.Path.{_≡_, refl, sym, ap, _∙_, subst}
-use mathlib.Core.Logic.{_⊎_, inl, inr}
-use mathlib.Core.Bool.{Bool, true, false, not, _&&_, _||_, Bool·beq, cond}
-use Prim.Native.Nat.{ℕ, zero, suc, _+_, _-_, _*_, _/_, _%_, _^_, _≤_, _<_}
-use native.Mathlib.Nat.{zero-add, eq-or-lt-of-le, mod-eq-of-lt, lt-trans}
+use mathlib.Core.Logic.{inl, inr}
+use mathlib.Core.Bool.{Bool, true, false, not, _&&_, _||_, cond}
+use Prim.Native.Nat.{ℕ, zero, suc, _+_, _-_, _/_, _%_, _^_, _≤_, _<_}
+use native.Mathlib.Nat.{zero-add, eq-or-lt-of-le, mod-eq-of-lt}
 use native.Mathlib.Decide.{decLt}
 use native.Mathlib.Omega.{arith}
-use borrow.Author.Tests.{lt-ltb, le-ltb, eq-eqb, ne-eqb}
-use lib.Dec.{T, ltb, eqb, lit<}
+use borrow.Author.Tests.{lt-ltb, le-ltb, ne-eqb}
+use lib.Dec.{T, ltb, eqb}
 use lib.Ieee.{Float, nan, inf, fin, Format, lt, eq, odd, neg, ofFields, ofBits, toBits, below, level, binary64, fits, isNan, nanBits, prec, low, ones, hid}
 use lib.Ieee.Exact.{HasValue}
 use lib.Ieee.Bits.{ofBits-toBits, toBits-lt, nanBits-above}
@@ -17,7 +17,7 @@ use Rattle.float.specs.Inner.{counted}
 use Rattle.float.proofs.Value.{counted-value}
 use Rattle.float.proofs.Patterns.{ofBits-fields}
 use Rattle.float.proofs.Narrowing.{magnitude-le}
-use Rattle.rank.specs.Order.{minusZero, precedes}
+use Rattle.rank.specs.Order.{precedes}
 use Rattle.rank.specs.Inner.{keyBits, keyOf, valueOf, Key}
 use Rattle.rank.proofs.Patterns.{top, Pattern, keeps-ltb, lt-pattern, eq-pattern, zero-pattern}
 

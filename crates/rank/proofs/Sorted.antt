@@ -3,12 +3,10 @@
 -- So counting finds the percentile (`percentile-counts`), and so does the key that the counts of keys select
 -- (`selected`). Assumes nothing.
 use mathlib.Core.Path.{_≡_, refl, sym, ap, _∙_, subst}
-use mathlib.Core.Logic.{_⊎_, inl, inr}
 use mathlib.Core.Bool.{Bool, true, false, not, cond}
 use mathlib.Core.List.{List, [], _∷_}
-use Prim.Native.Nat.{ℕ, zero, suc, _+_, _-_, _*_, _/_, _%_, _^_, _≤_, _<_, zero-le}
+use Prim.Native.Nat.{ℕ, zero, suc, _+_, _-_, _/_, _≤_, _<_}
 use native.Mathlib.Nat.{le-of-lt, le-trans, le-of-suc-le-suc, div-one, zero-add}
-use native.Mathlib.Numerals.{add-one}
 use native.Mathlib.Decide.{decLt}
 use native.Mathlib.Omega.{arith}
 use borrow.Author.Tests.{lt-ltb, le-ltb, ltb-true, ltb-false, not-true}
@@ -18,8 +16,7 @@ use lib.Ieee.{Float, nan, binary64, fits}
 use Rattle.rank.specs.Order.{precedes, insert, sorted, before, upTo}
 use Rattle.lists.specs.Count.{countTo}
 use Rattle.rank.specs.Percentile.{rankOf, percentileOf}
-use Rattle.rank.specs.Inner.{keyOf, keyAt, cell, below, Within, Selected, Key, valueOf}
-use Rattle.rank.specs.declared.Percentile.{Percentile}
+use Rattle.rank.specs.Inner.{keyOf, keyAt, below, Within, Selected, Key, valueOf}
 use Rattle.rank.specs.declared.Percentile.the-variants.{Value, Nothing}
 use Rattle.rank.proofs.Keyed.{precedes-key, key-injective, value-key, is-key}
 use Rattle.lists.proofs.Count.{bit, count-cong, count-le}

@@ -1,13 +1,11 @@
 -- The row of amplitudes in the work slice: it is that of the block means stored before it, read by its index or as a
 -- list.
-use Prim.Native.Nat.{ℕ, zero, suc, _+_, _-_, _*_, _/_, _≤_, _<_}
-use native.Mathlib.Nat.{not-suc-le-zero, eq-or-lt-of-le, le-of-suc-le-suc, div-lt-iff-lt-mul, le-div-iff-mul-le}
+use Prim.Native.Nat.{ℕ, _+_, _-_, _*_, _/_, _≤_, _<_}
+use native.Mathlib.Nat.{div-lt-iff-lt-mul, le-div-iff-mul-le}
 use native.Mathlib.Omega.{arith}
-use mathlib.Core.Path.{_≡_, refl, sym, ap, _∙_}
-use mathlib.Core.Logic.{⊎-elim}
-use mathlib.Core.List.{List, [], _∷_, _++_}
-use lib.ListN.{length, getD, take, drop, length-append, length-drop, List·getD-append}
-use lib.Seq.{length-take-le, getD-at, getD-take, getD-drop, ext-getD}
+use mathlib.Core.Path.{_≡_, refl, ap}
+use mathlib.Core.List.{List}
+use lib.ListN.{length, getD, take, drop}
 use lib.Ieee.{Float, nan}
 use Rattle.float.specs.Ops.{_⊘_, eight}
 use Rattle.complex.specs.declared.value.Complex.{Complex}
@@ -15,14 +13,13 @@ use Rattle.complex.specs.Value.{cNorm, cDiv}
 use Rattle.complex.specs.Rows.{zAt, zFill}
 use Rattle.complex.proofs.RowLaws.{zAt-zFill, length-zFill}
 use Rattle.lists.specs.Fill.{fill}
-use Rattle.lists.proofs.Fill.{fill-cong, getD-fill, length-fill}
-use Rattle.row.specs.Window.{stepOf, windowOf, samples, blocks, stepBlocks}
+use Rattle.lists.proofs.Fill.{fill-cong, getD-fill}
+use Rattle.row.specs.Window.{stepOf, windowOf, samples, stepBlocks}
 use Rattle.row.specs.Blocks.{blockMean}
-use Rattle.row.specs.Envelope.{amplitude, runOf, rowOf, rowLength}
+use Rattle.row.specs.Envelope.{amplitude, rowOf, rowLength}
 use Rattle.lists.specs.Firsts.{firsts}
 use Rattle.row.proofs.Running.{run-cong}
 use Rattle.row.proofs.Steps.{step-low}
-use Rattle.lists.specs.Firsts.{firsts}
 use Rattle.lists.proofs.Fill.{part-fill}
 
 -- ---- the row of the block means

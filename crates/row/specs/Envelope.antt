@@ -1,7 +1,7 @@
 -- The amplitude row (01, part 2): B − 7 amplitudes, by the Rust's running sum from left to right; none if n < window.
 -- Definitions only.
 use Prim.Native.Nat.{ℕ, zero, suc, _+_, _-_}
-use mathlib.Core.List.{List, [], _∷_, _++_}
+use mathlib.Core.List.{List}
 use lib.Ieee.{Float}
 use Rattle.float.specs.Ops.{_⊘_, eight}
 use Rattle.complex.specs.declared.value.Complex.{Complex}

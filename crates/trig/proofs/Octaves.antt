@@ -21,7 +21,7 @@ use Rattle.float.proofs.Cuts.{revalue}
 use Rattle.float.proofs.Compared.{cross→lt}
 use Rattle.trig.specs.Logarithm.{octave, mantissaOf, exponentOf, Split}
 use Rattle.float.proofs.Counts.{whole-value}
-use Rattle.float.proofs.Digits.{size-gt}
+use Rattle.float.proofs.Digits.{pow-le→le, size-gt}
 use Rattle.float.proofs.Sums.{sub-over}
 use Rattle.trig.proofs.Patterns.{pattern-is, normal-value}
 
@@ -122,9 +122,6 @@ octave-says n =
     let hi : q < 2 * 2 ^ k = lt-of-lt-of-le (size-lt q) (le-of-eq (ap (λ (z : ℕ). 2 ^ z) (sym s) ∙ pow-succ' 2 k)) in
     (omega arith, omega arith)
 
-pow-le→le : (i j : ℕ) → 2 ^ i ≤ 2 ^ j → i ≤ j
-pow-le→le i j h = le-of-suc-le-suc (lt-of-not-le (λ (g : suc j ≤ i). not-le-of-lt (pow-lt g) h))
-
 -- no exponent is below that of the smallest number
 pub offset : (n : ℕ) (p : ℤ) → T (fits binary64 (fin false (suc n) p)) → (x : ℕ) × (p ≡ minus x 1074)
 offset n (pos k) t = (k + 1074, sym (minus-up (k + 1074) 1074 (omega arith) ∙ ap pos (omega arith)))
@@ -172,16 +169,16 @@ plus-up (negsuc x) k = go (ltb k (suc x)) (ltb→lt k (suc x)) (nltb→le k (suc
         less x k h = omega arith
     go false f g = sym (pow-add 2 (k - suc x) (suc x)) ∙ ap (λ (z : ℕ). 2 ^ z) (back k (suc x) (g tt)) ∙ sym (one-mul (2 ^ k)) ∙ sym (mul-one (1 * 2 ^ k))
 
-three-quarters : HasValue (fraction 3 4) false 3 4
+pub three-quarters : HasValue (fraction 3 4) false 3 4
 unfolding fraction round
 three-quarters = (refl, refl)
 
-three-halves : HasValue (fraction 3 2) false 3 2
+pub three-halves : HasValue (fraction 3 2) false 3 2
 unfolding fraction round
 three-halves = (refl, refl)
 
 -- two fractions of one value
-same-value : (x : Float) (s : Bool) (a c b d : ℕ) → HasValue x s a c → HasValue x s b d → a * d ≡ b * c
+pub same-value : (x : Float) (s : Bool) (a c b d : ℕ) → HasValue x s a c → HasValue x s b d → a * d ≡ b * c
 same-value nan s a c b d v w = absurd v
 same-value (inf t) s a c b d v w = absurd v
 same-value (fin t m e) s a c b d v w =

@@ -10,7 +10,7 @@ ghost use Rattle.float.specs.Ops.{of, _⊕_};
 ghost use Rattle.float.specs.Compare.{absOf};
 ghost use Rattle.float.specs.Whole.{roundOf};
 ghost use Rattle.trig.specs.Sine.{sineTable};
-ghost use Rattle.trig.specs.Circle.{scaled, restOf, indexOf, within, smallSine, smallCosine, entryOf, sineAt, sinOf, cosOf};
+ghost use Rattle.trig.specs.Circle.{restOf, indexOf, within, smallSine, smallCosine, entryOf, sineAt, sinOf, cosOf};
 
 // 1.5 × 2^52: a sum with it from 2^52 up to 2^53 has no digit after the point, and its last digits are those of the
 // whole

@@ -1,5 +1,4 @@
 -- `rank::value` meets its contract. Assumes nothing.
-use Prim.Native.Nat.{ℕ}
 use mathlib.Core.Path.{_≡_, refl, sym, ap, _∙_}
 use borrow.Author.Needs.{needs}
 use lib.Ieee.{nan, binary64, div, ofBits}
