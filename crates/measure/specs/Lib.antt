@@ -1,0 +1,3 @@
+-- What the contracts of `measure` cite.
+pub mod Powers
+pub mod Inner

@@ -1,0 +1,2 @@
+// What a recording's blocks show once a strong sender's estimate is known: cancel.rs's residual_check.
+pub mod powers;
