@@ -4,3 +4,6 @@
 -- Alike     spans and syntheses go by the Rust's own fields of a fit: `span-alike`, `synth-alike`
 pub mod Spans
 pub mod Alike
+pub mod Parts
+pub mod Removals
+pub mod Laws
