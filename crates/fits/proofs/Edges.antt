@@ -27,7 +27,8 @@ use Rattle.complex.specs.Rows.{zAt, cSum}
 use Rattle.complex.proofs.RowLaws.{cSum-cong}
 use Rattle.row.specs.Window.{samples}
 use Rattle.row.specs.Blocks.{rotorOf, derot, meanFrom}
-use Rattle.elements.proofs.Unturned.{real, rotor-unturned}
+use Rattle.row.proofs.Unturned.{rotor-unturned}
+use Rattle.elements.proofs.Unturned.{real}
 use Rattle.elements.specs.declared.element.KeyedElement.{KeyedElement}
 use Rattle.elements.specs.Ones.{isOne, onesOf}
 use Rattle.constants.specs.Constants.{RISE_S, EDGE_PERCENTILE, MIN_INTERIOR_S, SLOPE_BLOCK_S}
