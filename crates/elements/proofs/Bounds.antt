@@ -31,12 +31,10 @@ use Rattle.rank.specs.Percentile.{percentileOf}
 use Rattle.rank.proofs.Sorted.{percentile-none}
 use Rattle.rank.proofs.Among.{percentile-keeps}
 use Rattle.constants.specs.Constants.{EDGE_PERCENTILE}
-use Rattle.elements.specs.Find.{halfOf, thresholdOf, keyDownsAt, elementsAt, keyDownsOf, elementsFound}
+use Rattle.elements.specs.Find.{Threshold, At, Absent, halfOf, thresholdOf, keyDownsAt, elementsAt, keyDownsOf, elementsFound}
 use Rattle.elements.specs.declared.element.KeyedElement.{KeyedElement}
-use Rattle.elements.specs.Crossings.{upward, downward, KeyDown, keyDowns, IsKeyDown}
+use Rattle.elements.specs.Keying.{upward, downward, KeyDown, IsKeyDown, keyDowns, centre, crossedAt, elementOf, listedOf, elementsOf, elementsTo}
 use Rattle.elements.proofs.KeyDowns.{members, listed-is, key-down-is}
-use Rattle.elements.specs.Times.{centre, crossedAt, elementOf}
-use Rattle.elements.specs.Found.{listedOf, elementsOf, elementsTo}
 
 -- ---- one crossing
 
@@ -110,23 +108,23 @@ module _ (iq : List Float) (fs carrier : Float) (s : Singles iq) (q : Iq iq) whe
       let here : i < rowLength iq fs = subst (λ (n : ℕ). i < n) (length-firsts (rowOf iq fs carrier) (rowLength iq fs)) h in
       subst Amount (sym (getD-firsts (rowOf iq fs carrier) (rowLength iq fs) i nan here)) (row-amount iq fs carrier i s q here)
 
-  half-amount : (p : Percentile) (thr : Float) → ((v : Float) → p ≡ Value v → Amount v) → halfOf p ≡ Value thr → Amount thr
+  half-amount : (p : Percentile) (thr : Float) → ((v : Float) → p ≡ Value v → Amount v) → halfOf p ≡ At thr → Amount thr
   half-amount (Value top) thr h e = go (lt zero (half ⊗ top)) e
     where
-      go : (t : Bool) → cond t (Value (half ⊗ top)) Nothing ≡ Value thr → Amount thr
+      go : (t : Bool) → cond t (At (half ⊗ top)) Absent ≡ At thr → Amount thr
       go true e = let same : half ⊗ top ≡ thr = cc in subst Amount same (amount-half top (h top refl))
       go false e = let no : _≡_ {A = ℕ} 0 1 = cc in absurd (omega arith)
   half-amount Nothing thr h e = let no : _≡_ {A = ℕ} 0 1 = cc in absurd (omega arith)
 
   -- the threshold
-  pub threshold-amount : (thr : Float) → thresholdOf iq fs carrier ≡ Value thr → Amount thr
+  pub threshold-amount : (thr : Float) → thresholdOf iq fs carrier ≡ At thr → Amount thr
   unfolding thresholdOf
   threshold-amount thr e =
       let row = firsts (rowOf iq fs carrier) (rowLength iq fs) in
       half-amount (percentileOf row EDGE_PERCENTILE) thr (λ v p. percentile-keeps Amount row EDGE_PERCENTILE v listed-amount p) e
 
   -- a row that has one is not empty
-  some-row : (thr : Float) → thresholdOf iq fs carrier ≡ Value thr → 0 < rowLength iq fs
+  some-row : (thr : Float) → thresholdOf iq fs carrier ≡ At thr → 0 < rowLength iq fs
   unfolding thresholdOf
   some-row thr e = go (eq-zero-or-pos (rowLength iq fs))
     where
@@ -136,21 +134,21 @@ module _ (iq : List Float) (fs carrier : Float) (s : Singles iq) (q : Iq iq) whe
       go : (rowLength iq fs ≡ 0) ⊎ (0 < rowLength iq fs) → 0 < rowLength iq fs
       go (inl z) =
           let none : Nothing ≡ percentileOf row EDGE_PERCENTILE = percentile-none row EDGE_PERCENTILE (length-firsts (rowOf iq fs carrier) (rowLength iq fs) ∙ z) in
-          let gone : halfOf Nothing ≡ Value thr = ap halfOf none ∙ e in
+          let gone : halfOf Nothing ≡ At thr = ap halfOf none ∙ e in
           let no : _≡_ {A = ℕ} 0 1 = cc in absurd (omega arith)
       go (inr p) = p
 
-  last-amount : (thr : Float) → thresholdOf iq fs carrier ≡ Value thr → (i : ℕ) → i ≤ rowLength iq fs - 1 → Amount (rowOf iq fs carrier i)
+  last-amount : (thr : Float) → thresholdOf iq fs carrier ≡ At thr → (i : ℕ) → i ≤ rowLength iq fs - 1 → Amount (rowOf iq fs carrier i)
   last-amount thr t i h = let some : 0 < rowLength iq fs = some-row thr t in row-amount iq fs carrier i s q (omega arith)
 
   -- A pair of positions is a key-down of the recording exactly if it is an upward crossing and the next downward one:
   -- the row has no NaN.
-  pub recorded-is : (thr : Float) → thresholdOf iq fs carrier ≡ Value thr
+  pub recorded-is : (thr : Float) → thresholdOf iq fs carrier ≡ At thr
       → (k : KeyDown) → List·Memᴰ k (keyDownsOf iq fs carrier) ↔ IsKeyDown (rowOf iq fs carrier) thr (rowLength iq fs - 1) k
   unfolding keyDownsOf
   recorded-is thr t k =
       let last = rowLength iq fs - 1 in
-      subst (λ (p : Percentile). List·Memᴰ k (keyDownsAt (rowOf iq fs carrier) last (stepOf fs) fs p) ↔ IsKeyDown (rowOf iq fs carrier) thr last k) (sym t)
+      subst (λ (p : Threshold). List·Memᴰ k (keyDownsAt (rowOf iq fs carrier) last (stepOf fs) fs p) ↔ IsKeyDown (rowOf iq fs carrier) thr last k) (sym t)
       (key-down-is (rowOf iq fs carrier) thr last (λ i l. amount-number (last-amount thr t i l)) k)
 
   -- the numbers of every element found
@@ -158,9 +156,9 @@ module _ (iq : List Float) (fs carrier : Float) (s : Singles iq) (q : Iq iq) whe
   unfolding elementsFound
   found-bounded r e m = go (thresholdOf iq fs carrier) refl m
     where
-      go : (p : Percentile) → thresholdOf iq fs carrier ≡ p → List·Memᴰ e (elementsAt (rowOf iq fs carrier) (rowLength iq fs - 1) (stepOf fs) fs p) → Plain e
-      go (Value thr) t m =
+      go : (p : Threshold) → thresholdOf iq fs carrier ≡ p → List·Memᴰ e (elementsAt (rowOf iq fs carrier) (rowLength iq fs - 1) (stepOf fs) fs p) → Plain e
+      go (At thr) t m =
           let few : blocks iq (stepOf fs) ≤ 1048576 = blocks-short iq (stepOf fs) (q .short) in
           elements-bounded (rowOf iq fs carrier) thr (stepOf fs) fs (rowLength iq fs - 1) (step-high fs r) (omega arith)
           (last-amount thr t) (threshold-amount thr t) e m
-      go Nothing t m = absurd (List·Memᴰ·not-nil m)
+      go Absent t m = absurd (List·Memᴰ·not-nil m)

@@ -22,7 +22,6 @@ use Rattle.row.specs.Window.{stepOf}
 use Rattle.row.specs.Envelope.{rowOf, rowLength}
 use Rattle.lists.specs.Firsts.{firsts}
 use Rattle.lists.proofs.Firsts.{length-firsts, getD-firsts}
-use Rattle.rank.specs.declared.Percentile.{Percentile}
 use Rattle.rank.specs.declared.Percentile.the-variants.{Value}
 use Rattle.rank.specs.Order.{minusZero, precedes, before, upTo}
 use Rattle.lists.specs.Count.{countTo}
@@ -31,11 +30,9 @@ use Rattle.lists.proofs.Count.{count-cong}
 use Rattle.rank.proofs.Sorted.{held, rank-lt, percentile-counts}
 use Rattle.elements.specs.declared.element.KeyedElement.{KeyedElement}
 use Rattle.elements.specs.declared.keying.Found.{Found}
-use Rattle.elements.specs.Crossings.{upward, downward, pending, keyDowns}
-use Rattle.elements.specs.Times.{crossedAt, elementOf, isLong, long}
+use Rattle.elements.specs.Keying.{upward, downward, pending, keyDowns, crossedAt, elementOf, isLong, long, airtimeOf, listedOf, shortOf, counts, elementsOf, foundTo, elementsTo}
 use Rattle.lists.specs.Those.{those}
-use Rattle.elements.specs.Found.{airtimeOf, listedOf, shortOf, counts, elementsOf, foundTo, elementsTo}
-use Rattle.elements.specs.Find.{halfOf, thresholdOf, foundAt, elementsAt, foundOf, elementsFound}
+use Rattle.elements.specs.Find.{Threshold, At, halfOf, thresholdOf, foundAt, elementsAt, foundOf, elementsFound}
 use Rattle.elements.specs.Ones.{isOne, onesOf}
 use Rattle.elements.proofs.KeyDowns.{either}
 use Rattle.elements.proofs.Same.{found-same, elements-same}
@@ -141,7 +138,7 @@ upto-top : (m : ℕ) → m ≤ 8 → not (precedes top (fraction m 8)) ≡ true
 unfolding precedes minusZero lt eq isNan fraction round
 upto-top = at-nine (λ m. not (precedes top (fraction m 8)) ≡ true) refl refl refl refl refl refl refl refl refl
 
-half-top : halfOf (Value top) ≡ Value half
+half-top : halfOf (Value top) ≡ At half
 unfolding fraction round lt mul ofBits
 half-top = refl
 
@@ -186,7 +183,7 @@ module _ (m : ℕ → ℕ) (small : (i : ℕ) → m i ≤ 8) (n : ℕ) where
       percentile-counts eights EDGE_PERCENTILE top (held eights (row-fits m n)) (eighth-fits 8) (rw size some) (rw (size, before-top) enough)
       (rw (size, all-upto) (rank-lt n EDGE_PERCENTILE some))
 
-module _ (row : ℕ → Float) (fs : Float) {last last' step step' : ℕ} {p p' : Percentile} (l : last ≡ last') (s : step ≡ step') (t : p ≡ p') where
+module _ (row : ℕ → Float) (fs : Float) {last last' step step' : ℕ} {p p' : Threshold} (l : last ≡ last') (s : step ≡ step') (t : p ≡ p') where
   found-by : foundAt row last step fs p ≡ foundAt row last' step' fs p'
   found-by = rw (l, s, t)
 
@@ -198,7 +195,7 @@ module _ (a e n : ℕ) (few : n ≤ 1048576) (some : 8 ≤ n) (enough : countTo 
   abbrev iq : List Float
   iq = onesOf a e n
 
-  threshold-ones : thresholdOf iq (of 3000) (of 0) ≡ Value half
+  threshold-ones : thresholdOf iq (of 3000) (of 0) ≡ At half
   unfolding thresholdOf eights
   threshold-ones =
       ap (λ (l : List Float). halfOf (percentileOf l EDGE_PERCENTILE))

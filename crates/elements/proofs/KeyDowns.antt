@@ -15,12 +15,10 @@ use lib.Ieee.{Float, lt, le, isNan}
 use Rattle.lists.proofs.Every.{and-left, and-right}
 use Rattle.elements.specs.declared.keying.Rising.{Rising}
 use Rattle.elements.specs.declared.keying.Rising.the-variants.{At, Nothing}
-use Rattle.elements.specs.Crossings.{upward, downward, KeyDown, keyDown, pending, ended, keyDowns, IsKeyDown}
-use Rattle.elements.specs.Times.{long}
+use Rattle.elements.specs.Keying.{upward, downward, KeyDown, keyDown, IsKeyDown, pending, ended, keyDowns, long, listedOf, shortOf, counts, foundTo}
 use Rattle.lists.specs.Those.{those}
-use Rattle.elements.specs.Found.{listedOf, shortOf, counts, foundTo}
 use Rattle.elements.proofs.Compared.{apart, total, reached-is}
-use Rattle.elements.proofs.Keyed.{Held, one-way, pending-up, pending-down, pending-same, keys-down, keys-same, held}
+use Rattle.elements.proofs.Walk.{Held, one-way, pending-up, pending-down, pending-same, keys-down, keys-same, held}
 
 pub either : (t : Bool) → (t ≡ true) ⊎ (t ≡ false)
 either true = inl refl

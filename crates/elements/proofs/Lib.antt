@@ -1,10 +1,10 @@
 -- The laws behind the proofs of `elements`, and its theorems.
 pub mod Compared
+pub mod Records
 pub mod Lists
-pub mod Keyed
+pub mod Walk
 pub mod KeyDowns
 pub mod Same
-pub mod Stored
 pub mod Ways
 pub mod Bounds
 pub mod Recording

@@ -1,19 +1,16 @@
--- Lists of key-downs and of elements: what each count and each store is over one list put behind another. Assumes
--- nothing.
+-- Lists of key-downs: what each count, and the list of elements, is over one list put behind another. Assumes nothing.
 use Prim.Native.Nat.{ℕ, suc, _+_, _-_, _*_, _≤_}
 use native.Mathlib.Nat.{add-mul}
 use native.Mathlib.Omega.{arith}
 use mathlib.Core.Path.{_≡_, refl, _∙_}
 use mathlib.Core.Bool.{Bool, true, false, not, cond}
 use mathlib.Core.List.{List, [], _∷_, _++_, map}
-use lib.ListN.{length, length-append, length-set}
+use lib.ListN.{length, length-append}
 use lib.Ieee.{Float}
 use Rattle.elements.specs.declared.element.KeyedElement.{KeyedElement}
-use Rattle.elements.specs.Crossings.{KeyDown}
-use Rattle.elements.specs.Times.{elementOf, long}
-use Rattle.lists.specs.Those.{those}
-use Rattle.elements.specs.Found.{airtimeOf, listedOf, shortOf, counts, elementsOf, putElement, storedFrom}
+use Rattle.elements.specs.Keying.{KeyDown, elementOf, long, airtimeOf, listedOf, shortOf, counts, elementsOf}
 use Rattle.elements.specs.Inner.{foundPlus}
+use Rattle.lists.specs.Those.{those}
 use Rattle.lists.proofs.Those.{those-append, those-shorter}
 
 pub airtime-append : (step : ℕ) (a b : List KeyDown) → airtimeOf step (a ++ b) ≡ airtimeOf step a + airtimeOf step b
@@ -55,16 +52,3 @@ module _ (row : ℕ → Float) (thr : Float) (step : ℕ) (fs : Float) where
   elements-append a b =
       let p = long row thr step fs in
       rw (those-append p a b) (map-append (elementOf row thr step) (those p a) (those p b))
-
--- ---- the lent list
-pub length-stored : (l : List Float) (p : ℕ) (es : List KeyedElement) → length (storedFrom l p es) ≡ length l
-unfolding storedFrom
-length-stored l p [] = refl
-length-stored l p (e ∷ es) = length-stored (putElement l p e) (suc p) es ∙ simp length-set
-
-pub stored-append : (l : List Float) (p : ℕ) (a b : List KeyedElement) → storedFrom l p (a ++ b) ≡ storedFrom (storedFrom l p a) (p + length a) b
-unfolding storedFrom
-stored-append l p [] b = let here : p + 0 ≡ p = omega arith in rw here
-stored-append l p (e ∷ a) b =
-    let there : p + suc (length a) ≡ suc p + length a = omega arith in
-    rw there (stored-append (putElement l p e) (suc p) a b)

@@ -9,32 +9,28 @@ use lib.ListN.{length, length-map}
 use lib.Ieee.{Float}
 use Rattle.row.specs.Window.{stepOf, stepBlocks}
 use Rattle.row.specs.Envelope.{rowOf, rowLength}
-use Rattle.rank.specs.declared.Percentile.{Percentile}
-use Rattle.rank.specs.declared.Percentile.the-variants.{Value, Nothing}
-use Rattle.elements.specs.Crossings.{KeyDown, keyDowns}
-use Rattle.elements.specs.Times.{elementOf, long}
-use Rattle.elements.specs.Found.{listedOf, counts, elementsOf, foundTo, elementsTo}
-use Rattle.elements.specs.Find.{thresholdOf, keyDownsAt, foundAt, elementsAt, keyDownsOf, foundOf, elementsFound}
+use Rattle.elements.specs.Keying.{KeyDown, keyDowns, elementOf, long, listedOf, counts, elementsOf, foundTo, elementsTo}
+use Rattle.elements.specs.Find.{Threshold, At, Absent, thresholdOf, keyDownsAt, foundAt, elementsAt, keyDownsOf, foundOf, elementsFound}
 use Rattle.elements.proofs.KeyDowns.{listed-is, balance, places}
 
 module _ (row : ℕ → Float) (last step : ℕ) (fs : Float) where
-  keys-at : (p : Percentile) → foundAt row last step fs p .«key_downs» ≡ length (keyDownsAt row last step fs p)
+  keys-at : (t : Threshold) → foundAt row last step fs t .«key_downs» ≡ length (keyDownsAt row last step fs t)
   unfolding foundTo counts
-  keys-at (Value thr) = refl
-  keys-at Nothing = refl
+  keys-at (At thr) = refl
+  keys-at Absent = refl
 
-  listed-at : (p : Percentile) → foundAt row last step fs p .listed ≡ length (elementsAt row last step fs p)
+  listed-at : (t : Threshold) → foundAt row last step fs t .listed ≡ length (elementsAt row last step fs t)
   unfolding foundTo counts elementsTo elementsOf
-  listed-at (Value thr) = sym (length-map (listedOf row thr step fs (keyDowns row thr last)) (elementOf row thr step))
-  listed-at Nothing = refl
+  listed-at (At thr) = sym (length-map (listedOf row thr step fs (keyDowns row thr last)) (elementOf row thr step))
+  listed-at Absent = refl
 
-  balance-at : (p : Percentile) → foundAt row last step fs p .«key_downs» ≡ foundAt row last step fs p .listed + foundAt row last step fs p .short
-  balance-at (Value thr) = balance row thr step fs last
-  balance-at Nothing = refl
+  balance-at : (t : Threshold) → foundAt row last step fs t .«key_downs» ≡ foundAt row last step fs t .listed + foundAt row last step fs t .short
+  balance-at (At thr) = balance row thr step fs last
+  balance-at Absent = refl
 
-  few-at : (p : Percentile) → 2 * length (keyDownsAt row last step fs p) ≤ last
-  few-at (Value thr) = places row thr last
-  few-at Nothing = omega arith
+  few-at : (t : Threshold) → 2 * length (keyDownsAt row last step fs t) ≤ last
+  few-at (At thr) = places row thr last
+  few-at Absent = omega arith
 
 module _ (iq : List Float) (fs carrier : Float) where
   -- Key-downs and listed, as counts, are how many of each there are, and each key-down is listed or short.
@@ -59,7 +55,7 @@ module _ (iq : List Float) (fs carrier : Float) where
       omega arith
 
   -- A key-down of the recording that is long is one of the elements found.
-  pub long-listed : (thr : Float) (k : KeyDown) → thresholdOf iq fs carrier ≡ Value thr → List·Memᴰ k (keyDownsOf iq fs carrier)
+  pub long-listed : (thr : Float) (k : KeyDown) → thresholdOf iq fs carrier ≡ At thr → List·Memᴰ k (keyDownsOf iq fs carrier)
       → long (rowOf iq fs carrier) thr (stepOf fs) fs k ≡ true → List·Memᴰ (elementOf (rowOf iq fs carrier) thr (stepOf fs) k) (elementsFound iq fs carrier)
   unfolding keyDownsOf elementsFound elementsTo elementsOf
   long-listed thr k at m so =

@@ -1,45 +1,23 @@
--- At carrier 0 nothing is turned: the rotor is 1 at every sample. A recording of whole numbers 0 and 1 keeps them
--- through `derotated`, and at a step of 1 through `block_means` and the running sum. Assumes nothing.
+-- At carrier 0 nothing is turned, so a recording of whole numbers 0 and 1 keeps them through `derotated`, and at a
+-- step of 1 through `block_means` and the running sum. Assumes nothing.
 use Prim.Native.Nat.{ℕ, zero, suc, _+_, _-_, _*_, _^_, _≤_, _<_}
-use native.Mathlib.Nat.{zero-mul}
 use native.Mathlib.Omega.{arith}
 use mathlib.Core.Path.{_≡_, refl, sym, ap, _∙_}
 use mathlib.Core.List.{List}
-use lib.Ieee.{Float, binary64, add, sub, mul, div, rem, neg, lt, le, ofInt, ofBits, round, toSigned}
-use Rattle.float.specs.Ops.{_⊕_, _⊖_, _⊗_, of, one, eight, fraction}
-use Rattle.float.specs.Compare.{absOf}
-use Rattle.float.specs.Whole.{roundOf}
-use Rattle.float.specs.Remainder.{remEuclidOf}
+use lib.Ieee.{Float, binary64, add, sub, mul, div, neg, ofInt, ofBits, round}
+use Rattle.float.specs.Ops.{_⊕_, _⊖_, of, eight, fraction}
 use Rattle.float.specs.Root.{sqrtOf}
-use Rattle.float.proofs.Counts.{whole-add, whole-sub, whole-mul}
-use Rattle.trig.specs.Constants.{TAU, PI}
-use Rattle.trig.specs.Sine.{sineTable}
-use Rattle.trig.specs.Circle.{sineAt, within, sinOf, cosOf}
+use Rattle.float.proofs.Counts.{whole-add, whole-sub}
 use Rattle.complex.specs.declared.value.Complex.{Complex}
 use Rattle.complex.specs.Value.{cNew, cZero, cAdd, cSub, cMul, cConj, cDiv, cNorm}
 use Rattle.complex.specs.Rows.{zAt, cSum}
 use Rattle.row.specs.Blocks.{rotorOf, derot, meanFrom, blockMean}
 use Rattle.row.specs.Envelope.{runOf, amplitude}
+use Rattle.row.proofs.Unturned.{rotor-unturned}
 
 -- a whole number as a complex one
 abbrev pub real : ℕ → Complex
 real n = cNew (of n) (of 0)
-
-sin-nought : sinOf (of 0) ≡ of 0
-unfolding sinOf sineAt within sineTable PI absOf roundOf add sub mul div neg le ofInt ofBits toSigned
-sin-nought = refl
-
-cos-nought : cosOf (of 0) ≡ of 1
-unfolding cosOf sineAt within sineTable PI absOf roundOf add sub mul div neg le ofInt ofBits toSigned
-cos-nought = refl
-
-phase-nought : remEuclidOf (of 0) one ⊗ TAU ≡ of 0
-unfolding remEuclidOf rem lt add mul absOf TAU fraction round ofInt ofBits
-phase-nought = refl
-
-pub rotor-unturned : (k : ℕ) → k ≤ 2 ^ 53 → rotorOf (of 0) k ≡ real 1
-unfolding rotorOf
-rotor-unturned k h = rw (whole-mul binary64 0 k (omega arith) h, zero-mul k, phase-nought, cos-nought, sin-nought)
 
 -- ---- facts of few numbers, computed at each
 pub at-two : (P : ℕ → Type 0) → P 0 → P 1 → (m : ℕ) → m ≤ 1 → P m

@@ -22,10 +22,14 @@ use Rattle.rank.specs.declared.Percentile.{Percentile}
 use Rattle.rank.specs.declared.Percentile.the-variants.{Value, Nothing}
 use Rattle.rank.specs.Percentile.{percentileOf}
 use Rattle.elements.specs.declared.keying.Found.{Found}
-use Rattle.elements.specs.Found.{foundTo, elementsTo, none, stored, storedFrom}
+use Rattle.elements.specs.Keying.{none, foundTo, elementsTo}
+use Rattle.elements.specs.Element.{ELEMENT, elementsIn, handed, handedElements}
+use Rattle.elements.specs.Inner.{stored}
 use Rattle.constants.specs.Constants.{EDGE_PERCENTILE}
-use Rattle.elements.specs.Find.{halfOf, thresholdOf, foundOf, elementsFound}
+use Rattle.elements.specs.Find.{Absent, halfOf, thresholdOf, foundOf, elementsFound}
 use Rattle.elements.proofs.Same.{found-same, elements-same}
+use Rattle.elements.proofs.Records.{elements-handed}
+use Rattle.elements.proofs.Recording.{listed-counted, all-counted, enough-places}
 use Rattle.constants.proofs.Bits.{edge-percentile-bits}
 
 -- ---- the recording has a window of samples: how many blocks there are
@@ -52,7 +56,7 @@ entered iq fs step i r e h =
 
 module _ (iq : List Float) (fs carrier : Float) where
   abbrev answered : Found → List Float → List Float → Type 0
-  answered r l out = (r ≡ foundOf iq fs carrier) × (out ≡ stored l (elementsFound iq fs carrier))
+  answered r l out = (r ≡ foundOf iq fs carrier) × (handedElements out (r .listed) ≡ handed ELEMENT (elementsFound iq fs carrier) l)
 
   -- the row that the work slice holds behind the block means
   pub row-read : (step : ℕ) (w end v : List Float) → step ≡ stepOf fs
@@ -63,9 +67,17 @@ module _ (iq : List Float) (fs carrier : Float) where
       let size : 2 * blocks iq step + (blocks iq step - 7) - 2 * blocks iq step ≡ blocks iq step - 7 = omega arith in
       rw (← row-is iq fs carrier, ← e) ((rw size at part) ∙ row-part w end (blockMean iq (carrier ⊘ fs) step) (blocks iq step) filled room)
 
+  -- ---- the elements found, stored in a list with floor(B/2) places
+  found-handed : (r : Found) (l out : List Float) → ELEMENT * (stepBlocks iq fs / 2) ≤ length l → r ≡ foundOf iq fs carrier → out ≡ stored l (elementsFound iq fs carrier) → answered r l out
+  found-handed r l out room e f =
+      let few = all-counted iq fs carrier in
+      let most = enough-places iq fs carrier in
+      let listed = listed-counted iq fs carrier in
+      (e, rw (e, f, listed) (elements-handed l (elementsFound iq fs carrier) (omega arith)))
+
   -- ---- no threshold: nothing is found
-  without : (l : List Float) → thresholdOf iq fs carrier ≡ Nothing → answered none l l
-  unfolding foundOf elementsFound storedFrom
+  without : (l : List Float) → thresholdOf iq fs carrier ≡ Absent → answered none l l
+  unfolding foundOf elementsFound elementsIn handedElements firsts
   without l e = (rw e, rw e)
 
   pub way-short : (l : List Float) (step : ℕ) → step ≡ stepOf fs → length iq / 2 < 8 * step → answered none l l
@@ -85,19 +97,19 @@ module _ (iq : List Float) (fs carrier : Float) where
     pub way-low : (l : List Float) (top : Float) → p ≡ Value top → lt zero (half ⊗ top) ≡ false → answered none l l
     way-low l top e low = without l (rw (threshold-is, e, low))
 
-    pub way-found : (l out : List Float) (top : Float) (step : ℕ) (r : Found) → step ≡ stepOf fs → 1 ≤ length v → p ≡ Value top → lt zero (half ⊗ top) ≡ true
+    pub way-found : (l out : List Float) (top : Float) (step : ℕ) (r : Found) → ELEMENT * (stepBlocks iq fs / 2) ≤ length l → step ≡ stepOf fs → 1 ≤ length v → p ≡ Value top → lt zero (half ⊗ top) ≡ true
         → (r ≡ foundTo (λ k. getD v k nan) (half ⊗ top) step fs (length v - 1)) × (out ≡ stored l (elementsTo (λ k. getD v k nan) (half ⊗ top) step fs (length v - 1)))
         → answered r l out
     unfolding foundOf elementsFound
-    way-found l out top step r s some e high h =
+    way-found l out top step r room s some e high h =
         let size : length v ≡ rowLength iq fs = ap length is ∙ length-firsts (rowOf iq fs carrier) (rowLength iq fs) in
         let last : length v - 1 ≡ rowLength iq fs - 1 = omega arith in
         let same : (i : ℕ) → i ≤ length v - 1 → getD v i nan ≡ rowOf iq fs carrier i =
-        λ i b. ap (λ (m : List Float). getD m i nan) is ∙ getD-firsts (rowOf iq fs carrier) (rowLength iq fs) i nan (omega arith) in (
-          rw (threshold-is, e, high, ← last, ← s) (h .0 ∙ found-same (λ k. getD v k nan) (rowOf iq fs carrier) (half ⊗ top) (length v - 1) same step fs),
-          rw (threshold-is, e, high, ← last, ← s)
-              (h .1 ∙ ap (stored l) (elements-same (λ k. getD v k nan) (rowOf iq fs carrier) (half ⊗ top) (length v - 1) same step fs)),
-        )
+        λ i b. ap (λ (m : List Float). getD m i nan) is ∙ getD-firsts (rowOf iq fs carrier) (rowLength iq fs) i nan (omega arith) in
+        found-handed r l out room
+        (rw (threshold-is, e, high, ← last, ← s) (h .0 ∙ found-same (λ k. getD v k nan) (rowOf iq fs carrier) (half ⊗ top) (length v - 1) same step fs))
+        (rw (threshold-is, e, high, ← last, ← s)
+        (h .1 ∙ ap (stored l) (elements-same (λ k. getD v k nan) (rowOf iq fs carrier) (half ⊗ top) (length v - 1) same step fs)))
 
   pub row-size : (step : ℕ) (v : List Float) → v ≡ firsts (rowOf iq fs carrier) (rowLength iq fs) → Entered iq fs step → length v ≡ length iq / 2 / step - 7
   row-size step v is n =

@@ -3,41 +3,44 @@ use Prim.Native.Nat.{ℕ, _-_}
 use mathlib.Core.Bool.{cond}
 use mathlib.Core.List.{List, []}
 use lib.Ieee.{Float, lt}
-use Rattle.float.specs.Ops.{_⊗_, fraction, half, zero}
+use Rattle.float.specs.Ops.{_⊗_, half, zero}
+use Rattle.lists.specs.Firsts.{firsts}
+use Rattle.constants.specs.Constants.{EDGE_PERCENTILE}
 use Rattle.row.specs.Window.{stepOf}
 use Rattle.row.specs.Envelope.{rowOf, rowLength}
-use Rattle.lists.specs.Firsts.{firsts}
 use Rattle.rank.specs.declared.Percentile.{Percentile}
 use Rattle.rank.specs.declared.Percentile.the-variants.{Value, Nothing}
 use Rattle.rank.specs.Percentile.{percentileOf}
 use Rattle.elements.specs.declared.element.KeyedElement.{KeyedElement}
 use Rattle.elements.specs.declared.keying.Found.{Found}
-use Rattle.elements.specs.Crossings.{KeyDown, keyDowns}
-use Rattle.elements.specs.Found.{foundTo, elementsTo, none}
-use Rattle.constants.specs.Constants.{EDGE_PERCENTILE}
+use Rattle.elements.specs.Keying.{KeyDown, keyDowns, foundTo, elementsTo, none}
 
--- half of a percentile, if it is positive
-abbrev pub halfOf : Percentile → Percentile
-halfOf (Value top) = cond (lt zero (half ⊗ top)) (Value (half ⊗ top)) Nothing
-halfOf Nothing = Nothing
+-- the threshold of a row, if it has one
+pub data Threshold : Type 0 where
+  At : Float → Threshold
+  Absent : Threshold
 
--- Threshold: half the 98th percentile. There is none for an empty row or where that is not positive.
-unfoldable pub thresholdOf : List Float → Float → Float → Percentile
+-- Threshold: half the 98th percentile. A row with no percentile has none, and one not positive gives no key-downs.
+abbrev pub halfOf : Percentile → Threshold
+halfOf (Value top) = cond (lt zero (half ⊗ top)) (At (half ⊗ top)) Absent
+halfOf Nothing = Absent
+
+unfoldable pub thresholdOf : List Float → Float → Float → Threshold
 thresholdOf iq fs carrier = halfOf (percentileOf (firsts (rowOf iq fs carrier) (rowLength iq fs)) EDGE_PERCENTILE)
 
 module _ (row : ℕ → Float) (last step : ℕ) (fs : Float) where
   -- of a row whose last position is `last`, at a threshold; without one there is no key-down
-  abbrev pub keyDownsAt : Percentile → List KeyDown
-  keyDownsAt (Value thr) = keyDowns row thr last
-  keyDownsAt Nothing = []
+  abbrev pub keyDownsAt : Threshold → List KeyDown
+  keyDownsAt (At thr) = keyDowns row thr last
+  keyDownsAt Absent = []
 
-  abbrev pub foundAt : Percentile → Found
-  foundAt (Value thr) = foundTo row thr step fs last
-  foundAt Nothing = none
+  abbrev pub foundAt : Threshold → Found
+  foundAt (At thr) = foundTo row thr step fs last
+  foundAt Absent = none
 
-  abbrev pub elementsAt : Percentile → List KeyedElement
-  elementsAt (Value thr) = elementsTo row thr step fs last
-  elementsAt Nothing = []
+  abbrev pub elementsAt : Threshold → List KeyedElement
+  elementsAt (At thr) = elementsTo row thr step fs last
+  elementsAt Absent = []
 
 module _ (iq : List Float) (fs carrier : Float) where
   -- the key-downs of a recording, their counts, and the elements listed

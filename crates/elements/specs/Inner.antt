@@ -1,6 +1,34 @@
--- What the functions behind the loop ensure and require: counts one key-down at a time. Definitions only.
-use Prim.Native.Nat.{ℕ, _+_, _*_, _≤_, _<_}
+-- Not needed to read a public promise: what the functions behind `find_elements` require and ensure. Definitions only.
+use Prim.Native.Nat.{ℕ, suc, _+_, _*_, _^_, _≤_, _<_}
+use mathlib.Core.List.{List, [], _∷_}
+use lib.ListN.{set}
+use lib.Ieee.{Float}
+use Rattle.elements.specs.declared.element.KeyedElement.{KeyedElement}
 use Rattle.elements.specs.declared.keying.Found.{Found}
+use Rattle.elements.specs.Element.{ELEMENT}
+
+-- ---- records stored in a list
+
+-- a list with an element stored from number `at` on, and at place p
+abbrev pub putElementFrom : List Float → ℕ → KeyedElement → List Float
+putElementFrom l at e = set (set (set (set l at (e .start)) (at + 1) (e .end)) (at + 2) (e .up)) (at + 3) (e .down)
+
+abbrev pub putElement : List Float → ℕ → KeyedElement → List Float
+putElement l p e = putElementFrom l (ELEMENT * p) e
+
+-- Records of `width` numbers stored one after the other from place p on. `put` stores one from a number on.
+unfoldable pub storedBy : {A : Type 0} → ℕ → (List Float → ℕ → A → List Float) → List Float → ℕ → List A → List Float
+storedBy width put l p [] = l
+storedBy width put l p (x ∷ xs) = storedBy width put (put l (width * p) x) (suc p) xs
+
+-- elements stored one after the other, from place p on and from the start on
+abbrev pub storedFrom : List Float → ℕ → List KeyedElement → List Float
+storedFrom l p es = storedBy ELEMENT putElementFrom l p es
+
+abbrev pub stored : List Float → List KeyedElement → List Float
+stored l es = storedFrom l 0 es
+
+-- ---- counts one key-down at a time
 
 -- two counts together
 abbrev pub foundPlus : Found → Found → Found
@@ -16,13 +44,13 @@ oneShort = record { «key_downs» = 1; listed = 0; short = 1; airtime = 0 }
 
 -- the counts of a row of at most 2^20 amplitudes, at most 64 samples apart, are this small
 pub record Room (a : Found) : Type 0 where
-  pub keys : a .«key_downs» ≤ 1048576
-  pub long : a .listed ≤ 1048576
-  pub brief : a .short ≤ 1048576
-  pub air : a .airtime ≤ 67108864
+  pub keys : a .«key_downs» ≤ 2 ^ 20
+  pub long : a .listed ≤ 2 ^ 20
+  pub brief : a .short ≤ 2 ^ 20
+  pub air : a .airtime ≤ 2 ^ 26
 
 -- where a key-down from up ends at i: it is one of the row, and the counts of those before it leave room for it
-pub record Kept (a : Found) (up i : ℕ) : Type 0 where
+pub record Ending (a : Found) (up i : ℕ) : Type 0 where
   pub first : 1 ≤ up
   pub later : up < i
   pub place : 2 * (a .listed + 1) ≤ i

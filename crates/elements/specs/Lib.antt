@@ -1,7 +1,7 @@
--- What the contracts of `elements` cite.
-pub mod Crossings
-pub mod Times
-pub mod Found
-pub mod Inner
+-- What the contracts of `elements` cite, in 01's order: element.rt, keying.rt, find.rt, and the edge table's recordings.
+-- Inner is not needed to read a public promise.
+pub mod Element
+pub mod Keying
 pub mod Find
 pub mod Ones
+pub mod Inner

@@ -12,7 +12,7 @@ ghost use lib.ListN.{length};
 ghost use Rattle.trig.specs.Sine.{sineTable};
 ghost use Rattle.row.specs.Window.{Rate, stepBlocks};
 ghost use Rattle.row.specs.Samples.{Iq};
-ghost use Rattle.elements.specs.Found.{stored};
+ghost use Rattle.elements.specs.Element.{ELEMENT, handed, handedElements};
 ghost use Rattle.elements.specs.Find.{foundOf, elementsFound};
 
 // Rust: find_elements, which answers the elements as a list of its own and counts nothing. The row lies in the work
@@ -28,10 +28,11 @@ pub fn find_elements(
     requires { ⌜ Iq (now iq) ⌝ }
     requires { ⌜ Rate fs ⌝ }
     requires { ⌜ now sine ≡ sineTable ⌝ }
-    requires { ⌜ 4 * (stepBlocks (now iq) fs / 2) ≤ length (now elements) ⌝ }
+    requires { ⌜ ELEMENT * (stepBlocks (now iq) fs / 2) ≤ length (now elements) ⌝ }
     requires { ⌜ 4 * stepBlocks (now iq) fs ≤ length (now work) ⌝ }
     ensures { λ r. ⌜ (r ≡ foundOf (now (iq .entry)) fs carrier)
-        × (now (elements .exit) ≡ stored (now (elements .entry)) (elementsFound (now (iq .entry)) fs carrier)) ⌝ }
+        × (handedElements (now (elements .exit)) (r .listed)
+        ≡ handed ELEMENT (elementsFound (now (iq .entry)) fs carrier) (now (elements .entry))) ⌝ }
 {
     let step = edge_step(fs);
     let n = iq.len() / 2;

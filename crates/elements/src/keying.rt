@@ -4,14 +4,13 @@ use crate::element::put_element;
 use constants::RISE_S;
 use float::whole::exact;
 ghost use mathlib.Core.Path.{_≡_};
-ghost use Prim.Native.Nat.{_+_, _-_, _*_, _/_, _≤_, _<_};
+ghost use Prim.Native.Nat.{_+_, _-_, _*_, _/_, _^_, _≤_, _<_};
 ghost use mathlib.Core.List.{[], _∷_};
 ghost use lib.ListN.{length, getD};
 ghost use lib.Ieee.{nan};
-ghost use Rattle.elements.specs.Crossings.{upward, downward, keyDown, pending, ended};
-ghost use Rattle.elements.specs.Times.{crossedAt, elementOf, isLong};
-ghost use Rattle.elements.specs.Found.{counts, foundTo, elementsOf, elementsTo, stored, storedFrom};
-ghost use Rattle.elements.specs.Inner.{Room, Kept, oneListed, oneShort, foundPlus};
+ghost use Rattle.elements.specs.Element.{ELEMENT};
+ghost use Rattle.elements.specs.Keying.{upward, downward, keyDown, pending, ended, crossedAt, elementOf, isLong, counts, foundTo, elementsOf, elementsTo};
+ghost use Rattle.elements.specs.Inner.{stored, storedFrom, Room, Ending, oneListed, oneShort, foundPlus};
 
 // The position of the upward crossing that no downward one has followed yet. The Rust keeps its time.
 pub enum Rising {
@@ -38,7 +37,7 @@ impl Found {
     // One more key-down, listed, of so many samples.
     fn with_listed(self, samples: usize) -> Found
         requires { ⌜ Room self ⌝ }
-        requires { ⌜ samples ≤ 67108864 ⌝ }
+        requires { ⌜ samples ≤ 2 ^ 26 ⌝ }
         ensures { λ r. ⌜ r ≡ foundPlus self (oneListed samples) ⌝ }
     {
         Found {
@@ -80,7 +79,7 @@ fn falls(row: &[f64], thr: f64, i: usize) -> bool
 // The time of the crossing at i. Rust: `centre` and `cross` of find_elements.
 fn crossing(row: &[f64], thr: f64, step: usize, i: usize) -> f64
     requires { ⌜ (1 ≤ i) × (i < length (now row)) ⌝ }
-    requires { ⌜ (length (now row) ≤ 1048576) × (step ≤ 64) ⌝ }
+    requires { ⌜ (length (now row) ≤ 2 ^ 20) × (step ≤ 64) ⌝ }
     ensures { λ r. ⌜ r ≡ crossedAt (λ k. getD (now (row .entry)) k nan) thr step i ⌝ }
 {
     let a0 = row[i - 1];
@@ -92,7 +91,7 @@ fn crossing(row: &[f64], thr: f64, step: usize, i: usize) -> f64
 // The element that the key-down from up to down is.
 fn element_of(row: &[f64], thr: f64, step: usize, up: usize, down: usize) -> KeyedElement
     requires { ⌜ (1 ≤ up) × (up < down) × (down < length (now row)) ⌝ }
-    requires { ⌜ (length (now row) ≤ 1048576) × (step ≤ 64) ⌝ }
+    requires { ⌜ (length (now row) ≤ 2 ^ 20) × (step ≤ 64) ⌝ }
     ensures { λ r. ⌜ r ≡ elementOf (λ k. getD (now (row .entry)) k nan) thr step (keyDown up down) ⌝ }
 {
     KeyedElement {
@@ -110,7 +109,7 @@ fn is_long(fs: f64, e: KeyedElement) -> bool
 }
 
 // The key-down from up to i is counted, and stored if it is long enough.
-fn keyed(
+fn count_key_down(
     row: &[f64],
     thr: f64,
     step: usize,
@@ -120,10 +119,10 @@ fn keyed(
     found: Found,
     elements: &mut [f64],
 ) -> Found
-    requires { ⌜ Kept found up i ⌝ }
+    requires { ⌜ Ending found up i ⌝ }
     requires { ⌜ i < length (now row) ⌝ }
-    requires { ⌜ (length (now row) ≤ 1048576) × (step ≤ 64) ⌝ }
-    requires { ⌜ 4 * (length (now row) / 2) ≤ length (now elements) ⌝ }
+    requires { ⌜ (length (now row) ≤ 2 ^ 20) × (step ≤ 64) ⌝ }
+    requires { ⌜ ELEMENT * (length (now row) / 2) ≤ length (now elements) ⌝ }
     ensures { λ r. ⌜ (r ≡ foundPlus found (counts (λ k. getD (now (row .entry)) k nan) thr step fs (keyDown up i ∷ [])))
         × (now (elements .exit) ≡ storedFrom (now (elements .entry)) (found .listed)
         (elementsOf (λ k. getD (now (row .entry)) k nan) thr step fs (keyDown up i ∷ []))) ⌝ }
@@ -149,8 +148,8 @@ fn close(
     elements: &mut [f64],
 ) -> Found
     requires { ⌜ (1 ≤ i) × (i < length (now row)) ⌝ }
-    requires { ⌜ (length (now row) ≤ 1048576) × (step ≤ 64) ⌝ }
-    requires { ⌜ 4 * (length (now row) / 2) ≤ length (now elements) ⌝ }
+    requires { ⌜ (length (now row) ≤ 2 ^ 20) × (step ≤ 64) ⌝ }
+    requires { ⌜ ELEMENT * (length (now row) / 2) ≤ length (now elements) ⌝ }
     requires { ⌜ rising ≡ pending (λ k. getD (now row) k nan) thr (i - 1) ⌝ }
     requires { ⌜ found ≡ foundTo (λ k. getD (now row) k nan) thr step fs (i - 1) ⌝ }
     ensures { λ r. ⌜ (r ≡ foundPlus found (counts (λ k. getD (now (row .entry)) k nan) thr step fs (ended rising i)))
@@ -160,14 +159,14 @@ fn close(
     let Rising::At(up) = rising else {
         return found;
     };
-    keyed(row, thr, step, fs, up, i, found, elements)
+    count_key_down(row, thr, step, fs, up, i, found, elements)
 }
 
 // The key-downs of a row at a threshold: their counts, and those long enough as elements in the lent list.
 // Rust: the loop of find_elements, which counts nothing and lists start and end alone.
 pub fn scan(row: &[f64], thr: f64, step: usize, fs: f64, elements: &mut [f64]) -> Found
-    requires { ⌜ (length (now row) ≤ 1048576) × (step ≤ 64) ⌝ }
-    requires { ⌜ 4 * (length (now row) / 2) ≤ length (now elements) ⌝ }
+    requires { ⌜ (length (now row) ≤ 2 ^ 20) × (step ≤ 64) ⌝ }
+    requires { ⌜ ELEMENT * (length (now row) / 2) ≤ length (now elements) ⌝ }
     ensures { λ r. ⌜ (r ≡ foundTo (λ k. getD (now (row .entry)) k nan) thr step fs (length (now (row .entry)) - 1))
         × (now (elements .exit) ≡ stored (now (elements .entry))
         (elementsTo (λ k. getD (now (row .entry)) k nan) thr step fs (length (now (row .entry)) - 1))) ⌝ }

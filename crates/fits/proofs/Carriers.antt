@@ -11,7 +11,7 @@ use Rattle.float.specs.Ops.{_⊕_, _⊗_, _⊘_, bits, zero}
 use Rattle.trig.proofs.Bits.{tau-bits}
 use Rattle.fits.specs.declared.fit.ElementFit.{ElementFit}
 use Rattle.lists.specs.Firsts.{firsts}
-use Rattle.fits.specs.Lists.{fitAt, fitsIn}
+use Rattle.fits.specs.List.{fitAt, fitsIn}
 use Rattle.lists.specs.Sums.{sumOver}
 use Rattle.fits.specs.Carrier.{fitWeight, weightedSlope, meanSlope}
 use Rattle.lists.proofs.Sums.{over-more}

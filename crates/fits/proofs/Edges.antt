@@ -27,14 +27,13 @@ use Rattle.complex.specs.Rows.{zAt, cSum}
 use Rattle.complex.proofs.RowLaws.{cSum-cong}
 use Rattle.row.specs.Window.{samples}
 use Rattle.row.specs.Blocks.{rotorOf, derot, meanFrom}
-use Rattle.elements.proofs.Unturned.{real, rotor-unturned}
+use Rattle.row.proofs.Unturned.{rotor-unturned}
+use Rattle.elements.proofs.Unturned.{real}
 use Rattle.elements.specs.declared.element.KeyedElement.{KeyedElement}
 use Rattle.elements.specs.Ones.{isOne, onesOf}
-use Rattle.elements.specs.Crossings.{upward, downward, pending, keyDowns}
 use Rattle.constants.specs.Constants.{RISE_S, EDGE_PERCENTILE, MIN_INTERIOR_S, SLOPE_BLOCK_S}
-use Rattle.elements.specs.Times.{crossedAt, elementOf, isLong, long}
 use Rattle.lists.specs.Those.{those}
-use Rattle.elements.specs.Found.{airtimeOf, listedOf, shortOf, counts, elementsOf, foundTo, elementsTo}
+use Rattle.elements.specs.Keying.{upward, downward, pending, keyDowns, crossedAt, elementOf, isLong, long, airtimeOf, listedOf, shortOf, counts, elementsOf, foundTo, elementsTo}
 use Rattle.elements.specs.Find.{elementsFound}
 use Rattle.elements.proofs.Edges.{finds, edges as ones}
 use Rattle.lists.specs.Count.{countTo}
@@ -47,7 +46,8 @@ use Rattle.lists.specs.Sums.{fSum}
 use Rattle.fits.specs.Line.{timeOf, lineSlope}
 use Rattle.fits.specs.Slope.{slopeMean, phaseOn, phaseOf, slopeOf}
 use Rattle.fits.specs.Gain.{refSample, hann, tiltOf, gainSum, hannSum}
-use Rattle.fits.specs.Fit.{fitInside, fitWithin, fitOf, fitsOf}
+use Rattle.fits.specs.Fit.{fitInside, fitWithin, fitOf}
+use Rattle.fits.specs.List.{fitsOf}
 use Rattle.fits.specs.Estimate.{fitsFound}
 use Rattle.fits.proofs.Slopes.{slope-cong}
 

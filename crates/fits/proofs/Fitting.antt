@@ -21,7 +21,8 @@ use Rattle.fits.specs.declared.fit.Fit.the-variants.{Fitted, Skipped}
 use Rattle.fits.specs.Interior.{interiorOf, blockOf}
 use Rattle.fits.specs.Slope.{slopeOf}
 use Rattle.fits.specs.Gain.{refSample, gainSum, hannSum}
-use Rattle.fits.specs.Fit.{Timed, fitInside, fitWithin, fitOf}
+use Rattle.fits.specs.Fit.{fitInside, fitWithin, fitOf}
+use Rattle.fits.specs.Inner.{Timed}
 use Rattle.fits.proofs.Blocks.{step-le-block, block-some}
 use Rattle.fits.proofs.Interiors.{interior-within}
 

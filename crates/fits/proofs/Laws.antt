@@ -17,8 +17,9 @@ use Rattle.complex.proofs.RowLaws.{cSum-none0, cSum-turn0, cSum-done0, zFill-no
 use Rattle.lists.specs.Sums.{fSum, total}
 use Rattle.lists.proofs.Sums.{fSum-none, fSum-turn, fSum-done}
 use Rattle.fits.specs.Line.{weighted, moment, lineSlope}
-use Rattle.fits.specs.Slope.{phaseOn, phaseOf, pointOf}
-use Rattle.fits.specs.Gain.{hann, leveledBy, leveled}
+use Rattle.fits.specs.Slope.{phaseOn, phaseOf}
+use Rattle.fits.specs.Gain.{hann, leveled}
+use Rattle.fits.specs.Inner.{pointOf, leveledBy}
 
 -- the blocks before the last begin no later than it ends
 pub block-within : (i0 block n b m : ℕ) → i0 + n * block ≤ m → b < n → i0 + b * block ≤ m

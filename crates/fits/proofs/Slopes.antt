@@ -16,8 +16,9 @@ use Rattle.complex.specs.Rows.{zAt, zFill}
 use Rattle.complex.proofs.RowLaws.{zAt-zFill}
 use Rattle.lists.specs.Sums.{total}
 use Rattle.lists.proofs.Sums.{fSum-cong}
-use Rattle.fits.specs.Line.{phaseIn, weightIn, timeOf, weighted, moment, lineSlope}
-use Rattle.fits.specs.Slope.{slopeMean, phaseOf, pointOf, slopeOf}
+use Rattle.fits.specs.Line.{timeOf, weighted, moment, lineSlope}
+use Rattle.fits.specs.Slope.{slopeMean, phaseOf, slopeOf}
+use Rattle.fits.specs.Inner.{pointOf, phaseIn, weightIn}
 
 -- points alike have the same slope
 pub slope-cong : (w w' t p p' : ℕ → Float) (n : ℕ) → ((k : ℕ) → k < n → w k ≡ w' k) → ((k : ℕ) → k < n → p k ≡ p' k) → lineSlope w t p n ≡ lineSlope w' t p' n

@@ -9,7 +9,7 @@ use Rattle.elements.specs.declared.element.KeyedElement.{KeyedElement}
 use Rattle.elements.specs.Find.{foundOf, elementsFound}
 use Rattle.fits.specs.declared.fit.ElementFit.{ElementFit}
 use Rattle.fits.specs.declared.estimate.Estimate.{Estimate}
-use Rattle.fits.specs.Fit.{fitsOf}
+use Rattle.fits.specs.List.{fitsOf}
 use Rattle.fits.specs.Carrier.{meanSlope}
 
 module _ (iq : List Float) (fs : Float) where

@@ -1,10 +1,9 @@
--- The fit of an element (01, part 4: `fit_elements`), and the fits of a list of elements. Definitions only.
+-- The fit of an element (01, part 4: `fit_elements`). Definitions only.
 use Prim.Native.Nat.{ℕ, _-_}
 use mathlib.Core.Bool.{cond}
-use mathlib.Core.List.{List, [], _∷_, _++_}
-use lib.Dec.{T}
+use mathlib.Core.List.{List}
 use lib.Ieee.{Float, le}
-use Rattle.float.specs.Ops.{_⊘_, zero}
+use Rattle.float.specs.Ops.{zero}
 use Rattle.complex.specs.Value.{cDiv}
 use Rattle.row.specs.Window.{samples}
 use Rattle.elements.specs.declared.element.KeyedElement.{KeyedElement}
@@ -13,7 +12,6 @@ use Rattle.fits.specs.declared.interior.Interior.the-variants.{Inside, N
 use Rattle.fits.specs.declared.fit.ElementFit.{ElementFit}
 use Rattle.fits.specs.declared.fit.Fit.{Fit}
 use Rattle.fits.specs.declared.fit.Fit.the-variants.{Fitted, Skipped}
-use Rattle.float.specs.Size.{sized}
 use Rattle.fits.specs.Interior.{interiorOf, blockOf}
 use Rattle.fits.specs.Slope.{slopeOf}
 use Rattle.fits.specs.Gain.{refSample, gainSum, hannSum}
@@ -36,27 +34,3 @@ fitWithin iq cyc block e Nothing = Skipped
 -- the fit of an element in a recording at a rate, derotated by cyc cycles a sample
 unfoldable pub fitOf : List Float → Float → Float → KeyedElement → Fit
 fitOf iq fs cyc e = fitWithin iq cyc (blockOf fs) e (interiorOf (samples iq) fs (e .start) (e .end))
-
--- what the functions behind question 7 require of an element: its times are finite, and of size at most 2^200
-pub record Timed (e : KeyedElement) : Type 0 where
-  pub first : T (sized (e .start))
-  pub last : T (sized (e .end))
-
--- what a list of fits has of it: the fit, or nothing of a skipped element
-abbrev pub kept : Fit → List ElementFit
-kept (Fitted f) = f ∷ []
-kept Skipped = []
-
--- `fit_elements`: the fits of those elements, in order, that get one
-unfoldable pub fitsOf : List Float → Float → Float → List KeyedElement → List ElementFit
-fitsOf iq fs carrier [] = []
-fitsOf iq fs carrier (e ∷ es) = kept (fitOf iq fs (carrier ⊘ fs) e) ++ fitsOf iq fs carrier es
-
--- skipped: the listed elements that get no fit
-abbrev pub left : Fit → KeyedElement → List KeyedElement
-left (Fitted f) e = []
-left Skipped e = e ∷ []
-
-unfoldable pub skippedOf : List Float → Float → Float → List KeyedElement → List KeyedElement
-skippedOf iq fs carrier [] = []
-skippedOf iq fs carrier (e ∷ es) = left (fitOf iq fs (carrier ⊘ fs) e) e ++ skippedOf iq fs carrier es

@@ -25,13 +25,9 @@ hann len j = half ⊖ half ⊗ cosOf (TAU ⊗ (of j ⊕ half) ⊘ of len)
 unfoldable pub tiltOf : Float → Float → ℕ → Float
 tiltOf slope ref k = remEuclidOf (neg slope ⊗ (of k ⊖ ref)) TAU
 
--- the term of sample k with the weight w
-abbrev pub leveledBy : List Float → Float → Float → Float → ℕ → Float → Complex
-leveledBy iq cyc slope ref k w = cMul (derot iq cyc k) (cPolar w (tiltOf slope ref k))
-
 -- the term of sample j of the interior, which is sample k = i0 + j of the recording
 abbrev pub leveled : List Float → Float → ℕ → ℕ → Float → Float → ℕ → Complex
-leveled iq cyc i0 len slope ref j = leveledBy iq cyc slope ref (i0 + j) (hann len j)
+leveled iq cyc i0 len slope ref j = let k = i0 + j in cMul (derot iq cyc k) (cPolar (hann len j) (tiltOf slope ref k))
 
 -- `acc` and `wacc`: the sums over the interior, of the terms and of their weights
 unfoldable pub gainSum : List Float → Float → ℕ → ℕ → Float → Float → Complex

@@ -2,23 +2,14 @@
 -- of the line through them. Definitions only.
 use Prim.Native.Nat.{ℕ, _+_, _*_}
 use mathlib.Core.Bool.{cond}
-use mathlib.Core.List.{List}
 use lib.Dec.{leb}
 use lib.Ieee.{Float, lt}
 use Rattle.float.specs.Ops.{_⊕_, _⊖_, _⊗_, _⊘_, of, zero, one, two}
-use Rattle.complex.specs.Rows.{zAt}
 use Rattle.lists.specs.Sums.{total}
 
 -- the time of block b of an interior that begins at i0: the middle of its samples
 abbrev pub timeOf : ℕ → ℕ → ℕ → Float
 timeOf i0 block b = of (i0 + b * block) ⊕ (of block ⊖ one) ⊘ two
-
--- point b as a list holds it, a pair where a row of complex numbers has its number b
-abbrev pub phaseIn : List Float → ℕ → Float
-phaseIn l b = zAt l b .re
-
-abbrev pub weightIn : List Float → ℕ → Float
-weightIn l b = zAt l b .im
 
 -- Σ w x, over n points
 abbrev pub weighted : (ℕ → Float) → (ℕ → Float) → ℕ → Float

@@ -5,7 +5,7 @@ use mathlib.Core.List.{List}
 use lib.Ieee.{Float}
 use Rattle.float.specs.Ops.{_⊕_}
 use Rattle.complex.specs.declared.value.Complex.{Complex}
-use Rattle.complex.specs.Value.{cNew, cMul, cConj, cNorm, cArg}
+use Rattle.complex.specs.Value.{cMul, cConj, cNorm, cArg}
 use Rattle.row.specs.Blocks.{meanFrom}
 use Rattle.fits.specs.Line.{timeOf, lineSlope}
 
@@ -21,10 +21,6 @@ phaseOn phase before next = phase ⊕ cArg (cMul next (cConj before))
 unfoldable pub phaseOf : (ℕ → Complex) → ℕ → Float
 phaseOf z zero = cArg (z 0)
 phaseOf z (suc b) = phaseOn (phaseOf z b) (z b) (z (suc b))
-
--- a block's phase, and its weight: how large its mean is
-abbrev pub pointOf : (ℕ → Complex) → ℕ → Complex
-pointOf z b = cNew (phaseOf z b) (cNorm (z b))
 
 -- `slope`, in radians a sample, of the len samples from i0 on
 unfoldable pub slopeOf : List Float → Float → ℕ → ℕ → ℕ → Float

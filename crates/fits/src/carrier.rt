@@ -7,7 +7,7 @@ ghost use mathlib.Core.Path.{_≡_};
 ghost use Prim.Native.Nat.{_*_, _≤_};
 ghost use lib.ListN.{length};
 ghost use Rattle.float.specs.Ops.{zero};
-ghost use Rattle.fits.specs.Lists.{fitsIn};
+ghost use Rattle.fits.specs.List.{FIT, fitsIn};
 ghost use Rattle.fits.specs.Carrier.{fitWeight, weightedSlope, meanSlope};
 ghost use Rattle.lists.specs.Sums.{sumOver};
 
@@ -26,7 +26,7 @@ pub struct Slopes {
 }
 
 fn sum_slopes(fits: &[f64], n: usize, fs: f64) -> Slopes
-    requires { ⌜ 8 * n ≤ length (now fits) ⌝ }
+    requires { ⌜ FIT * n ≤ length (now fits) ⌝ }
     ensures { λ r. ⌜ (r .num ≡ sumOver (weightedSlope fs) zero (fitsIn (now (fits .entry)) n)) × (r .den ≡ sumOver (fitWeight fs) zero (fitsIn (now (fits .entry)) n)) ⌝ }
 {
     let mut num = 0.0;
@@ -42,7 +42,7 @@ fn sum_slopes(fits: &[f64], n: usize, fs: f64) -> Slopes
 
 // Rust: mean_slope_hz, of the first n fits of a list.
 pub fn mean_slope_hz(fits: &[f64], n: usize, fs: f64) -> f64
-    requires { ⌜ 8 * n ≤ length (now fits) ⌝ }
+    requires { ⌜ FIT * n ≤ length (now fits) ⌝ }
     ensures { λ r. ⌜ r ≡ meanSlope fs (fitsIn (now (fits .entry)) n) ⌝ }
 {
     let s = sum_slopes(fits, n, fs);

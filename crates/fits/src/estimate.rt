@@ -9,9 +9,9 @@ ghost use lib.ListN.{length};
 ghost use Rattle.trig.specs.Sine.{sineTable};
 ghost use Rattle.row.specs.Samples.{Iq};
 ghost use Rattle.row.specs.Window.{Rate, stepBlocks};
-ghost use Rattle.elements.specs.Found.{stored};
+ghost use Rattle.elements.specs.Element.{ELEMENT, handed, handedElements};
 ghost use Rattle.elements.specs.Find.{foundOf, elementsFound};
-ghost use Rattle.fits.specs.Lists.{storedFits};
+ghost use Rattle.fits.specs.List.{FIT, handedFits};
 ghost use Rattle.fits.specs.Estimate.{fitsFound, strongElements, strongFits, strongEstimate};
 
 // What one find and fit counts.
@@ -33,13 +33,14 @@ fn find_and_fit(
     requires { ⌜ Iq (now iq) ⌝ }
     requires { ⌜ Rate fs ⌝ }
     requires { ⌜ now sine ≡ sineTable ⌝ }
-    requires { ⌜ 4 * (stepBlocks (now iq) fs / 2) ≤ length (now elements) ⌝ }
-    requires { ⌜ 8 * (stepBlocks (now iq) fs / 2) ≤ length (now fits) ⌝ }
+    requires { ⌜ ELEMENT * (stepBlocks (now iq) fs / 2) ≤ length (now elements) ⌝ }
+    requires { ⌜ FIT * (stepBlocks (now iq) fs / 2) ≤ length (now fits) ⌝ }
     requires { ⌜ 4 * stepBlocks (now iq) fs ≤ length (now work) ⌝ }
     ensures { λ r. ⌜ (r .found ≡ foundOf (now (iq .entry)) fs carrier)
         × (r .fitted ≡ length (fitsFound (now (iq .entry)) fs carrier))
-        × (now (elements .exit) ≡ stored (now (elements .entry)) (elementsFound (now (iq .entry)) fs carrier))
-        × (now (fits .exit) ≡ storedFits (now (fits .entry)) (fitsFound (now (iq .entry)) fs carrier)) ⌝ }
+        × (handedElements (now (elements .exit)) (r .found .listed)
+        ≡ handed ELEMENT (elementsFound (now (iq .entry)) fs carrier) (now (elements .entry)))
+        × (handedFits (now (fits .exit)) (r .fitted) ≡ handed FIT (fitsFound (now (iq .entry)) fs carrier) (now (fits .entry))) ⌝ }
 {
     let found = find_elements(iq, fs, carrier, elements, work, sine);
     let count = found.listed;
@@ -55,7 +56,7 @@ pub struct Estimate {
     pub fitted: usize,
 }
 
-// Rust: estimate_strong. Both lists hold the second pass from their start on, over what the first pass stored there.
+// Rust: estimate_strong. Both lists hand out the second pass; what the first left behind it there is free.
 pub fn estimate_strong(
     iq: &[f32],
     fs: f64,
@@ -68,12 +69,13 @@ pub fn estimate_strong(
     requires { ⌜ Iq (now iq) ⌝ }
     requires { ⌜ Rate fs ⌝ }
     requires { ⌜ now sine ≡ sineTable ⌝ }
-    requires { ⌜ 4 * (stepBlocks (now iq) fs / 2) ≤ length (now elements) ⌝ }
-    requires { ⌜ 8 * (stepBlocks (now iq) fs / 2) ≤ length (now fits) ⌝ }
+    requires { ⌜ ELEMENT * (stepBlocks (now iq) fs / 2) ≤ length (now elements) ⌝ }
+    requires { ⌜ FIT * (stepBlocks (now iq) fs / 2) ≤ length (now fits) ⌝ }
     requires { ⌜ 4 * stepBlocks (now iq) fs ≤ length (now work) ⌝ }
     ensures { λ r. ⌜ (r ≡ strongEstimate (now (iq .entry)) fs hint)
-        × (now (elements .exit) ≡ stored (stored (now (elements .entry)) (elementsFound (now (iq .entry)) fs hint)) (strongElements (now (iq .entry)) fs hint))
-        × (now (fits .exit) ≡ storedFits (storedFits (now (fits .entry)) (fitsFound (now (iq .entry)) fs hint)) (strongFits (now (iq .entry)) fs hint)) ⌝ }
+        × (handedElements (now (elements .exit)) (r .found .listed)
+        ≡ handed ELEMENT (strongElements (now (iq .entry)) fs hint) (now (elements .entry)))
+        × (handedFits (now (fits .exit)) (r .fitted) ≡ handed FIT (strongFits (now (iq .entry)) fs hint) (now (fits .entry))) ⌝ }
 {
     let first = find_and_fit(iq, fs, hint, elements, fits, work, sine);
     let count = first.fitted;

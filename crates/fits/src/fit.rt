@@ -12,7 +12,8 @@ ghost use lib.ListN.{length};
 ghost use Rattle.trig.specs.Sine.{sineTable};
 ghost use Rattle.row.specs.Samples.{Iq};
 ghost use Rattle.row.specs.Window.{Rate, stepBlocks};
-ghost use Rattle.fits.specs.Fit.{Timed, fitInside, fitOf};
+ghost use Rattle.fits.specs.Fit.{fitInside, fitOf};
+ghost use Rattle.fits.specs.Inner.{Timed};
 
 // Rust: ElementFit.
 pub struct ElementFit {

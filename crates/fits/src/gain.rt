@@ -6,7 +6,8 @@ ghost use Prim.Native.Nat.{_+_, _*_, _≤_, _<_};
 ghost use lib.ListN.{length};
 ghost use Rattle.trig.specs.Sine.{sineTable};
 ghost use Rattle.row.specs.Samples.{Iq};
-ghost use Rattle.fits.specs.Gain.{hann, tiltOf, leveledBy, gainSum, hannSum};
+ghost use Rattle.fits.specs.Gain.{hann, tiltOf, gainSum, hannSum};
+ghost use Rattle.fits.specs.Inner.{leveledBy};
 
 // Rust: `w` in `fit_elements`.
 fn hann_weight(len: usize, j: usize, sine: &[u64; 1025]) -> f64

@@ -14,6 +14,7 @@ pub use estimate::estimate_strong;
 pub use fit::ElementFit;
 pub use fit::Fit;
 pub use fit::fit_one;
+pub use list::FIT;
 pub use list::fit_at;
 pub use list::fit_elements;
 pub use list::put_fit;

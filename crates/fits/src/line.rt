@@ -5,7 +5,8 @@ ghost use mathlib.Core.Path.{_≡_};
 ghost use Prim.Native.Nat.{_+_, _*_, _≤_, _<_};
 ghost use lib.ListN.{length};
 ghost use Rattle.lists.specs.Sums.{total};
-ghost use Rattle.fits.specs.Line.{phaseIn, weightIn, timeOf, weighted, moment, lineSlope};
+ghost use Rattle.fits.specs.Line.{timeOf, weighted, moment, lineSlope};
+ghost use Rattle.fits.specs.Inner.{phaseIn, weightIn};
 
 // The middle of block b of an interior that begins at i0.
 pub fn time_of(i0: usize, block: usize, b: usize) -> f64

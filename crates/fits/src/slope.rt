@@ -8,7 +8,8 @@ ghost use Rattle.trig.specs.Sine.{sineTable};
 ghost use Rattle.complex.specs.Value.{cNew, cNorm};
 ghost use Rattle.complex.specs.Rows.{zFill};
 ghost use Rattle.row.specs.Samples.{Iq};
-ghost use Rattle.fits.specs.Slope.{slopeMean, phaseOn, pointOf, slopeOf};
+ghost use Rattle.fits.specs.Slope.{slopeMean, phaseOn, slopeOf};
+ghost use Rattle.fits.specs.Inner.{pointOf};
 
 // The mean of the samples of block b.
 fn slope_mean(

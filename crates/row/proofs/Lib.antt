@@ -4,5 +4,6 @@ pub mod Steps
 pub mod Means
 pub mod Running
 pub mod Rows
+pub mod Unturned
 pub mod Bounds
 pub mod Laws

@@ -1,13 +1,12 @@
--- The sample rate, and `step` and `window`, which come from `edge_window` (01, head and question 1). Definitions
--- only, and the bit pattern of the constant.
+-- The sample rate, `step` and `window`, which come from `edge_window`, the number of blocks and where a run of samples
+-- has its centre (01, head and question 1). Definitions only.
 use Prim.Native.Nat.{ℕ, _*_, _/_}
-use mathlib.Core.Path.{_≡_, refl}
 use mathlib.Core.Bool.{Bool, _&&_}
 use mathlib.Core.List.{List}
 use lib.Dec.{T}
 use lib.ListN.{length}
-use lib.Ieee.{Float, le, toUnsigned, round, ofBits}
-use Rattle.float.specs.Ops.{_⊗_, _⊘_, bits, of, fraction, one, eight}
+use lib.Ieee.{Float, le, toUnsigned}
+use Rattle.float.specs.Ops.{_⊕_, _⊖_, _⊗_, _⊘_, of, one, two, eight}
 use Rattle.float.specs.Compare.{maxOf}
 use Rattle.float.specs.Whole.{roundOf}
 use Rattle.constants.specs.Constants.{EDGE_WINDOW_S}
@@ -40,3 +39,7 @@ blocks iq len = samples iq / len
 -- B = floor(n/step)
 abbrev pub stepBlocks : List Float → Float → ℕ
 stepBlocks iq fs = blocks iq (stepOf fs)
+
+-- the centre of the len samples from sample a, in samples: a + (len − 1)/2
+abbrev pub centreOf : ℕ → ℕ → Float
+centreOf a len = of a ⊕ (of len ⊖ one) ⊘ two

@@ -11,5 +11,7 @@ pub use blocks::mean_from;
 pub use blocks::rotor;
 pub use envelope::amplitudes;
 pub use samples::all_finite;
+pub use window::centre;
 pub use window::edge_step;
 pub use window::rate_ok;
+pub use window::step_blocks;

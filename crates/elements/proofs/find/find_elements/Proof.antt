@@ -88,7 +88,7 @@ returns-3 c =
     let p = passed whole in
     let read = row-read _ _ _ _ _ _ _ (whole .before .edge-step .ensures) (filled .amplitudes .ensures) refl (room whole) in
     let size = row-size _ _ _ _ _ read p in
-    way-found _ _ _ _ read _ (asked .percentile .ensures) _ _ _ _ _ (whole .before .edge-step .ensures) (omega arith) (top .top .given .1) (tested .if2 .taken) (c .before .before .scan .ensures)
+    way-found _ _ _ _ read _ (asked .percentile .ensures) _ _ _ _ _ (whole .before .before .before .before .before .pre .1 .1 .1 .0) (whole .before .edge-step .ensures) (omega arith) (top .top .given .1) (tested .if2 .taken) (c .before .before .scan .ensures)
 
 returns-4 : tie.Need-returns-4
 returns-4 c =

@@ -1,7 +1,7 @@
 -- `elements::keying::crossing` meets its contract. Assumes nothing.
 use Prim.Native.Nat.{_-_}
 use native.Mathlib.Omega.{arith}
-use Rattle.elements.specs.Times.{crossedAt}
+use Rattle.elements.specs.Keying.{crossedAt}
 use Rattle.elements.proofs.Laws.{small-product}
 use borrow.Author.Needs.{needs}
 use Rattle.elements.proofs.keying.crossing.Statement.{statement}

@@ -1,6 +1,6 @@
 -- `elements::keying::element_of` meets its contract. Assumes nothing.
 use borrow.Author.Needs.{needs}
-use Rattle.elements.specs.Times.{elementOf}
+use Rattle.elements.specs.Keying.{elementOf}
 use Rattle.elements.proofs.keying.element_of.Statement.{statement}
 use Rattle.elements.proofs.keying.element_of.Tie as tie
 

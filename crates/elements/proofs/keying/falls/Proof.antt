@@ -1,6 +1,6 @@
 -- `elements::keying::falls` meets its contract. Assumes nothing.
 use borrow.Author.Needs.{needs}
-use Rattle.elements.specs.Crossings.{downward}
+use Rattle.elements.specs.Keying.{downward}
 use Rattle.elements.proofs.keying.falls.Statement.{statement}
 use Rattle.elements.proofs.keying.falls.Tie as tie
 

@@ -1,5 +1,5 @@
 -- `elements::keying::is_long` meets its contract. Assumes nothing.
-use Rattle.elements.specs.Times.{isLong}
+use Rattle.elements.specs.Keying.{isLong}
 use Rattle.constants.proofs.Bits.{rise-bits}
 use Rattle.elements.proofs.keying.is_long.Statement.{statement}
 use Rattle.elements.proofs.keying.is_long.Tie as tie

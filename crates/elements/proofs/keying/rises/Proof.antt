@@ -1,6 +1,6 @@
 -- `elements::keying::rises` meets its contract. Assumes nothing.
 use borrow.Author.Needs.{needs}
-use Rattle.elements.specs.Crossings.{upward}
+use Rattle.elements.specs.Keying.{upward}
 use Rattle.elements.proofs.keying.rises.Statement.{statement}
 use Rattle.elements.proofs.keying.rises.Tie as tie
 

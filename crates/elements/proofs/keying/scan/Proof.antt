@@ -7,7 +7,7 @@ use mathlib.Core.Logic.{⊎-elim}
 use lib.ListN.{length, getD}
 use lib.Ieee.{nan}
 use borrow.Author.Needs.{needs}
-use Rattle.elements.proofs.Keyed.{Walked, walked-none, walked-up, walked-same, walked-down, walked-length, walked-done}
+use Rattle.elements.proofs.Walk.{Walked, walked-none, walked-up, walked-same, walked-down, walked-length, walked-done}
 use Rattle.elements.proofs.keying.scan.Statement.{statement}
 use Rattle.elements.proofs.keying.scan.Tie as tie
 

@@ -3,7 +3,7 @@ use Prim.Native.Nat.{_≤_, _-_}
 use mathlib.Core.Path.{_≡_, refl, ap₂}
 use borrow.Author.Needs.{needs}
 use Rattle.float.specs.Ops.{_⊗_, zero}
-use Rattle.fits.specs.Lists.{fitsIn}
+use Rattle.fits.specs.List.{fitsIn}
 use Rattle.fits.specs.Carrier.{fitWeight, weightedSlope}
 use Rattle.lists.specs.Sums.{sumOver}
 use Rattle.fits.proofs.Carriers.{over-none, over-turn, over-done}

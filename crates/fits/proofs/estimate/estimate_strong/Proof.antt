@@ -1,6 +1,8 @@
 use native.Mathlib.Omega.{arith}
 use denote.Ref.{now}
 use borrow.Author.Needs.{needs}
+use Rattle.elements.proofs.Records.{elements-again}
+use Rattle.fits.proofs.Records.{fits-again}
 use Rattle.fits.proofs.Passes.{fits-few, step-is, estimate-is}
 use Rattle.fits.proofs.estimate.estimate_strong.Statement.{statement}
 use Rattle.fits.proofs.estimate.estimate_strong.Tie as tie
@@ -22,12 +24,11 @@ returns c =
     let second = c .before .before .before .before .before .before .before in
     let mean = second .before .before .before .before in
     let first = mean .before .before .before .before .before .before .before .before in
-    let s = first .before .before .before .before .before .before .before .before in
     let was = first .find-and-fit .ensures in
     let is = second .find-and-fit2 .ensures in
-    let step = step-is _ _ _ _ _ _ _ (s .pre .1 .1 .1 .1 .0) (was .1) (was .3) (mean .mean-slope-hz .ensures) in
+    let step = step-is _ _ _ _ _ _ _ (was .3) (mean .mean-slope-hz .ensures) in
     let got = estimate-is _ _ _ _ _ _ _ _ _ _ step (is .0) (is .1) (is .2) (is .3) in
-    (got .0, rw (was .2) at (got .1), rw (was .3) at (got .2))
+    (got .0, elements-again _ _ _ _ _ _ (got .1) (was .2), fits-again _ _ _ _ _ _ (got .2) (was .3))
 
 pub estimate-strong-spec : {M : Type 1} → statement M
 estimate-strong-spec =

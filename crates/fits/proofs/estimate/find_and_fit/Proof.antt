@@ -14,18 +14,16 @@ fit-elements-requires c κs =
     let s = lent .before in
     let asked = s .pre .1 in
     let was = found .find-elements .ensures in
-    let few = listed-few _ _ _ (s .pre .0) (asked .0) _ (asked .1 .1 .0) _ _ (was .0) (was .1) in
-    let timed = listed-timed _ _ _ (s .pre .0) (asked .0) _ (asked .1 .1 .0) _ _ (was .0) (was .1) (lent .shared-slice-known .given) in
+    let few = listed-few _ _ _ _ _ _ (was .0) (was .1) in
+    let timed = listed-timed _ _ _ _ _ _ (was .0) (was .1) (s .pre .0) (asked .0) (lent .shared-slice-known .given) in
     (search needs, (search needs, (search needs, (timed, (omega arith, (omega arith, search needs))))))
 
 returns : tie.Need-returns
 returns c =
     let fitted = c .before .before .before .before in
     let found = fitted .before .before .before .before .before .before .before .before in
-    let s = found .before .before .before .before .before .before .before in
-    let asked = s .pre .1 in
     let was = found .find-elements .ensures in
-    let same = listed-fits _ _ _ (s .pre .0) (asked .0) _ (asked .1 .1 .0) _ _ (was .0) (was .1) in
+    let same = listed-fits _ _ _ _ _ _ (was .0) (was .1) in
     let now = fitted .fit-elements .ensures in
     (was .0, rw same at (now .0), was .1, rw same at (now .1))
 

@@ -3,7 +3,8 @@ use Prim.Native.Nat.{_≤_, _-_}
 use mathlib.Core.Path.{_≡_, refl, ap, ap₂}
 use Rattle.float.specs.Ops.{_⊖_, _⊗_}
 use Rattle.lists.proofs.Sums.{fSum-turn}
-use Rattle.fits.specs.Line.{phaseIn, weightIn, timeOf, moment}
+use Rattle.fits.specs.Line.{timeOf, moment}
+use Rattle.fits.specs.Inner.{phaseIn, weightIn}
 use Rattle.fits.proofs.Laws.{laws}
 use Rattle.fits.proofs.line.sum_moments.Statement.{statement}
 use Rattle.fits.proofs.line.sum_moments.Tie as tie

@@ -4,7 +4,8 @@ use mathlib.Core.Path.{_≡_, refl, ap, ap₂}
 use lib.Ieee.{mul, binary64}
 use Rattle.lists.specs.Sums.{total}
 use Rattle.lists.proofs.Sums.{fSum-turn}
-use Rattle.fits.specs.Line.{phaseIn, weightIn, timeOf, weighted}
+use Rattle.fits.specs.Line.{timeOf, weighted}
+use Rattle.fits.specs.Inner.{phaseIn, weightIn}
 use Rattle.fits.proofs.Laws.{laws}
 use Rattle.fits.proofs.line.sum_points.Statement.{statement}
 use Rattle.fits.proofs.line.sum_points.Tie as tie

@@ -3,9 +3,9 @@ use Prim.Native.Nat.{_≤_, _-_}
 use native.Mathlib.Omega.{arith}
 use mathlib.Core.Path.{_≡_}
 use lib.ListN.{length}
-use Rattle.fits.specs.Lists.{storedFits}
+use Rattle.fits.specs.Inner.{storedFits}
 use Rattle.fits.proofs.Laws.{laws}
-use Rattle.fits.proofs.Stored.{fitsTo, fits-none, fits-turn, fits-few, fits-done}
+use Rattle.fits.proofs.Listing.{fitsTo, fits-none, fits-turn, fits-few, fits-done}
 use Rattle.fits.proofs.list.fit_elements.Statement.{statement}
 use Rattle.fits.proofs.list.fit_elements.Tie as tie
 
@@ -45,7 +45,8 @@ loop-again c =
 returns : tie.Need-returns Inv-loop μ-loop
 returns c =
     let inv = c .before .loop .inv in
-    fits-done _ _ _ _ _ _ _ _ _ (inv .4 .0) (inv .4 .1) (search laws) (search laws)
+    let s = c .before .before .before .before .before .before in
+    fits-done _ _ _ _ _ _ _ _ _ (s .pre .1 .1 .1 .1 .1 .0) (inv .4 .0) (inv .4 .1) (search laws) (search laws)
 
 pub fit-elements-spec : {M : Type 1} → statement M
 fit-elements-spec =

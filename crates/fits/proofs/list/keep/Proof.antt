@@ -1,5 +1,5 @@
 use borrow.Author.Needs.{needs}
-use Rattle.fits.proofs.Stored.{keep-none, keep-one}
+use Rattle.fits.proofs.Listing.{keep-none, keep-one}
 use Rattle.fits.proofs.list.keep.Statement.{statement}
 use Rattle.fits.proofs.list.keep.Tie as tie
 

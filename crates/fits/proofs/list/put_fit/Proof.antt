@@ -7,30 +7,32 @@ use Rattle.fits.proofs.list.put_fit.Tie as tie
 slice-write-out-2 : tie.Need-slice-write-out-2
 slice-write-out-2 c = simp length-set (omega arith)
 
-same-length : tie.Need-same-length
-same-length c = simp length-set (omega arith)
+slice-write-out-3 : tie.Need-slice-write-out-3
+slice-write-out-3 c = simp length-set (omega arith)
+
+slice-write-out-4 : tie.Need-slice-write-out-4
+slice-write-out-4 c = simp length-set (omega arith)
 
 returns : tie.Need-returns
-returns c =
-    let put = c .before .before in
-    rw (put .put .ensures, put .before .before .before .before .put-element .ensures)
+returns c = rw (c .before .before .put-element-from .ensures)
 
 pub put-fit-spec : {M : Type 1} → statement M
 put-fit-spec =
     tie.close
     (tie.spec
     (λ c. search needs)
-    (λ c κs. search needs)
-    (λ c. search needs)
     (λ c. search needs)
     (λ c κs. search needs)
-    (λ c. search needs)
-    (λ c. search needs)
-    (λ c. search needs)
     (λ c. search needs)
     (λ c. search needs)
     (λ c. search needs)
     (λ c. search needs)
     slice-write-out-2
-    same-length
+    (λ c. search needs)
+    (λ c. search needs)
+    slice-write-out-3
+    (λ c. search needs)
+    (λ c. search needs)
+    slice-write-out-4
+    (λ c. search needs)
     returns)

@@ -5,7 +5,8 @@ use mathlib.Core.Path.{_≡_}
 use lib.ListN.{length}
 use Rattle.complex.specs.Rows.{zFill}
 use Rattle.complex.proofs.RowLaws.{zFill-turn0}
-use Rattle.fits.specs.Slope.{slopeMean, phaseOf, pointOf}
+use Rattle.fits.specs.Slope.{slopeMean, phaseOf}
+use Rattle.fits.specs.Inner.{pointOf}
 use Rattle.fits.proofs.Laws.{laws, block-inside, phase-turn, point-is, zFill-last}
 use Rattle.fits.proofs.slope.unwrap_phase.Statement.{statement}
 use Rattle.fits.proofs.slope.unwrap_phase.Tie as tie

@@ -1,12 +1,12 @@
--- `elements::keying::keyed` meets its contract. Assumes nothing.
+-- `elements::keying::count_key_down` meets its contract. Assumes nothing.
 use Prim.Native.Nat.{_-_}
 use native.Mathlib.Omega.{arith}
 use mathlib.Core.Path.{refl}
 use Rattle.elements.proofs.Laws.{small-product}
-use Rattle.elements.proofs.Keyed.{one-listed, one-short}
+use Rattle.elements.proofs.Walk.{one-listed, one-short}
 use borrow.Author.Needs.{needs}
-use Rattle.elements.proofs.keying.keyed.Statement.{statement}
-use Rattle.elements.proofs.keying.keyed.Tie as tie
+use Rattle.elements.proofs.keying.count_key_down.Statement.{statement}
+use Rattle.elements.proofs.keying.count_key_down.Tie as tie
 
 mul-with-listed : tie.Need-mul-with-listed
 mul-with-listed c =
@@ -30,8 +30,8 @@ returns-2 : tie.Need-returns-2
 returns-2 c =
     one-short _ _ _ _ _ _ _ _ _ _ _ (c .before .before .before .element-of .ensures) (c .before .before .is-long .ensures) (c .before .if1 .left) (c .with-short .ensures) refl
 
-pub keyed-spec : {M : Type 1} → statement M
-keyed-spec =
+pub count-key-down-spec : {M : Type 1} → statement M
+count-key-down-spec =
     tie.close
     (tie.spec
     (λ c κs. search needs)

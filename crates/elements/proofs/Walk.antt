@@ -1,6 +1,6 @@
 -- The walk along a row, position by position: what is pending and counted after j positions, how a turn of the loop
 -- moves it on, and how small the counts are. Assumes nothing.
-use Prim.Native.Nat.{ℕ, zero, suc, _+_, _-_, _*_, _≤_}
+use Prim.Native.Nat.{ℕ, zero, suc, _+_, _-_, _*_, _^_, _≤_}
 use native.Mathlib.Nat.{add-zero, mul-le-mul}
 use native.Mathlib.Omega.{arith}
 use mathlib.Core.Path.{_≡_, refl, sym, ap, _∙_, subst}
@@ -13,13 +13,13 @@ use Rattle.elements.specs.declared.element.KeyedElement.{KeyedElement}
 use Rattle.elements.specs.declared.keying.Rising.{Rising}
 use Rattle.elements.specs.declared.keying.Rising.the-variants.{At, Nothing}
 use Rattle.elements.specs.declared.keying.Found.{Found}
-use Rattle.elements.specs.Crossings.{upward, downward, KeyDown, keyDown, pending, ended, keyDowns}
-use Rattle.elements.specs.Times.{elementOf, isLong, long}
+use Rattle.elements.specs.Keying.{upward, downward, KeyDown, keyDown, pending, ended, keyDowns, elementOf, isLong, long, airtimeOf, none, listedOf, shortOf, counts, elementsOf, foundTo, elementsTo}
+use Rattle.elements.specs.Element.{ELEMENT, elementFrom}
+use Rattle.elements.specs.Inner.{putElementFrom, putElement, storedBy, stored, storedFrom, foundPlus, oneListed, oneShort, Room, Ending}
 use Rattle.lists.specs.Those.{those}
-use Rattle.elements.specs.Found.{airtimeOf, listedOf, shortOf, counts, elementsOf, foundTo, elementsTo, none, putElement, stored, storedFrom}
-use Rattle.elements.specs.Inner.{foundPlus, oneListed, oneShort, Room, Kept}
 use Rattle.elements.proofs.Compared.{apart}
-use Rattle.elements.proofs.Lists.{airtime-append, airtime-steps, those-less, counts-append, elements-append, length-stored, stored-append}
+use Rattle.elements.proofs.Lists.{airtime-append, airtime-steps, those-less, counts-append, elements-append}
+use Rattle.elements.proofs.Records.{length-stored, stored-append, element-kind}
 use Rattle.lists.proofs.Those.{those-shorter}
 
 -- no crossing is both upward and downward
@@ -73,20 +73,20 @@ held row thr (suc j) =
     held-step (upward row thr (suc j)) (downward row thr (suc j)) (pending row thr j) j (keyDowns row thr j) (one-way row thr (suc j)) (held row thr j)
 
 -- ---- the same of the code's counts, where a key-down ends at i
-room-of : (ks : List KeyDown) (p q : KeyDown → Bool) (u step : ℕ) → u ≤ 1048576 → step ≤ 64 → 2 * length ks + 1 ≤ u → airtimeOf 1 ks ≤ u
+room-of : (ks : List KeyDown) (p q : KeyDown → Bool) (u step : ℕ) → u ≤ 2 ^ 20 → step ≤ 64 → 2 * length ks + 1 ≤ u → airtimeOf 1 ks ≤ u
     → Room (record { «key_downs» = length ks; listed = length (those p ks); short = length (those q ks); airtime = airtimeOf step (those p ks) })
 room-of ks p q u step h g few brief =
     let listed = those-shorter p ks in
     let short = those-shorter q ks in
     let air = those-less p step ks in
     let steps = airtime-steps step ks in
-    let most : airtimeOf 1 ks * step ≤ 1048576 * 64 = mul-le-mul {n₁ = airtimeOf 1 ks} {n₂ = 1048576} (omega arith) g in
+    let most : airtimeOf 1 ks * step ≤ 2 ^ 20 * 64 = mul-le-mul {n₁ = airtimeOf 1 ks} {n₂ = 2 ^ 20} (omega arith) g in
     record { keys = omega arith; long = omega arith; brief = omega arith; air = omega arith }
 
 module _ (row : ℕ → Float) (thr : Float) (step : ℕ) (fs : Float) where
-  kept-of : (u i : ℕ) (r : Rising) → i ≤ 1048576 → 1 ≤ i → step ≤ 64 → At u ≡ r → Held r (i - 1) (keyDowns row thr (i - 1)) → Kept (foundTo row thr step fs (i - 1)) u i
+  ending-of : (u i : ℕ) (r : Rising) → i ≤ 2 ^ 20 → 1 ≤ i → step ≤ 64 → At u ≡ r → Held r (i - 1) (keyDowns row thr (i - 1)) → Ending (foundTo row thr step fs (i - 1)) u i
   unfolding foundTo counts listedOf shortOf
-  kept-of u i (At v) h p g e k =
+  ending-of u i (At v) h p g e k =
       let same : u ≡ v = cc in
       let fewer = those-shorter (long row thr step fs) (keyDowns row thr (i - 1)) in
       record {
@@ -95,11 +95,11 @@ module _ (row : ℕ → Float) (thr : Float) (step : ℕ) (fs : Float) where
         place = omega arith;
         room = room-of (keyDowns row thr (i - 1)) (long row thr step fs) (λ d. not (long row thr step fs d)) v step (omega arith) g (k .2) (k .3);
       }
-  kept-of u i Nothing h p g e k = let none : _≡_ {A = ℕ} 0 1 = cc in absurd (omega arith)
+  ending-of u i Nothing h p g e k = let none : _≡_ {A = ℕ} 0 1 = cc in absurd (omega arith)
 
-  pub kept : (rising : Rising) (u i : ℕ) (found : Found) → rising ≡ At u → rising ≡ pending row thr (i - 1) → found ≡ foundTo row thr step fs (i - 1)
-      → 1 ≤ i → i ≤ 1048576 → step ≤ 64 → Kept found u i
-  kept rising u i found e p q one small g = rw q (kept-of u i (pending row thr (i - 1)) small one g (sym e ∙ p) (held row thr (i - 1)))
+  pub ending : (rising : Rising) (u i : ℕ) (found : Found) → rising ≡ At u → rising ≡ pending row thr (i - 1) → found ≡ foundTo row thr step fs (i - 1)
+      → 1 ≤ i → i ≤ 2 ^ 20 → step ≤ 64 → Ending found u i
+  ending rising u i found e p q one small g = rw q (ending-of u i (pending row thr (i - 1)) small one g (sym e ∙ p) (held row thr (i - 1)))
 
   -- ---- what a key-down counts, and what is stored of it
   module _ (k : KeyDown) where
@@ -131,14 +131,14 @@ module _ (row : ℕ → Float) (thr : Float) (step : ℕ) (fs : Float) where
   module _ (k : KeyDown) (e : KeyedElement) (t : Bool) (found r : Found) (l out : List Float) (is : e ≡ elementOf row thr step k) (test : t ≡ isLong fs e) where
     pub one-listed : t ≡ true → r ≡ foundPlus found (oneListed ((k .down - k .up) * step)) → out ≡ putElement l (found .listed) e
         → (r ≡ foundPlus found (counts row thr step fs (k ∷ []))) × (out ≡ storedFrom l (found .listed) (elementsOf row thr step fs (k ∷ [])))
-    unfolding storedFrom long
+    unfolding storedBy long
     one-listed passed counted put =
         let is-long : long row thr step fs k ≡ true = rw (← is) (sym test ∙ passed) in
         (rw (counts-long k is-long) counted, rw (elements-long k is-long, ← is) put)
 
     pub one-short : t ≡ false → r ≡ foundPlus found oneShort → out ≡ l
         → (r ≡ foundPlus found (counts row thr step fs (k ∷ []))) × (out ≡ storedFrom l (found .listed) (elementsOf row thr step fs (k ∷ [])))
-    unfolding storedFrom long
+    unfolding storedBy long
     one-short failed counted same =
         let is-short : long row thr step fs k ≡ false = rw (← is) (sym test ∙ failed) in
         (rw (counts-short k is-short) counted, rw (elements-short k is-short) same)
@@ -147,7 +147,7 @@ module _ (row : ℕ → Float) (thr : Float) (step : ℕ) (fs : Float) where
   module _ (rising : Rising) (i : ℕ) (found : Found) (l : List Float) where
     pub none-ended : rising ≡ Nothing
         → (found ≡ foundPlus found (counts row thr step fs (ended rising i))) × (l ≡ storedFrom l (found .listed) (elementsOf row thr step fs (ended rising i)))
-    unfolding storedFrom
+    unfolding storedBy
     none-ended e = (rw (e, counts-none) (simp add-zero), rw (e, elements-none))
 
     pub one-ended : (u : ℕ) (r : Found) (out : List Float) → rising ≡ At u
@@ -170,7 +170,7 @@ module _ (row : ℕ → Float) (thr : Float) (step : ℕ) (fs : Float) where
         → out ≡ stored l (elementsOf row thr step fs (ks ++ new))
     stored-more l cur out c e =
         let place : 0 + length (elementsOf row thr step fs ks) ≡ found .listed = listed-place ks ∙ ap (λ f. f .listed) (sym so-far) in
-        rw (elements-append row thr step fs ks new, stored-append l 0 (elementsOf row thr step fs ks) (elementsOf row thr step fs new), place, ← c) e
+        rw (elements-append row thr step fs ks new, stored-append ELEMENT elementFrom putElementFrom element-kind l 0 (elementsOf row thr step fs ks) (elementsOf row thr step fs new), place, ← c) e
 
   -- ---- the loop, where the positions 1 to j are behind it
   pub record Walked (l : List Float) (j : ℕ) (rising : Rising) (found : Found) (cur : List Float) : Type 0 where
@@ -180,7 +180,7 @@ module _ (row : ℕ → Float) (thr : Float) (step : ℕ) (fs : Float) where
 
   module _ (l : List Float) where
     pub walked-none : Walked l (1 - 1) Nothing none l
-    unfolding pending keyDowns foundTo elementsTo storedFrom
+    unfolding pending keyDowns foundTo elementsTo storedBy
     walked-none = record { waiting = refl; counted = sym counts-none; written = rw elements-none }
 
     module _ (j : ℕ) (rising : Rising) (found : Found) (cur : List Float) (w : Walked l j rising found cur) where
@@ -237,7 +237,7 @@ module _ (row : ℕ → Float) (thr : Float) (step : ℕ) (fs : Float) where
           (subst (λ k. (r ≡ foundPlus found (counts row thr step fs (ended rising k))) × (out ≡ storedFrom cur (found .listed) (elementsOf row thr step fs (ended rising k)))) here e))
 
     pub walked-length : (j : ℕ) (rising : Rising) (found : Found) (cur : List Float) → Walked l j rising found cur → length cur ≡ length l
-    walked-length j rising found cur w = rw (w .written) (length-stored l 0 (elementsTo row thr step fs j))
+    walked-length j rising found cur w = rw (w .written) (length-stored ELEMENT elementFrom putElementFrom element-kind l 0 (elementsTo row thr step fs j))
 
     pub walked-done : (m j : ℕ) (rising : Rising) (found : Found) (cur : List Float) → Walked l j rising found cur → j ≤ m → m ≤ j
         → (found ≡ foundTo row thr step fs m) × (cur ≡ stored l (elementsTo row thr step fs m))
