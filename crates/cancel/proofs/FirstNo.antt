@@ -1,8 +1,8 @@
 -- The first no of a list of questions. Assumes nothing.
 use Prim.Native.Nat.{ℕ, zero, suc}
 use native.Mathlib.Omega.{arith}
-use mathlib.Core.Path.{_≡_, refl, sym, ap, _∙_}
-use mathlib.Core.Bool.{Bool, true, false, _&&_, false≢true}
+use mathlib.Core.Path.{_≡_, refl, sym, _∙_}
+use mathlib.Core.Bool.{Bool, true, false, not, _&&_, false≢true}
 use mathlib.Core.List.{List, [], _∷_, _++_}
 use lib.Dec.{ltb}
 use borrow.Author.Needs.{needs}
@@ -10,36 +10,42 @@ use borrow.Author.Tests.{not-true, not-false}
 use Rattle.lists.proofs.Every.{and-right}
 use Rattle.cancel.specs.Questions.{Asked, ask, firstNo}
 
--- a yes is passed over, a no is the result
-pub first-yes : (n : ℕ) (b : Bool) (qs : List Asked) (r : ℕ) → b ≡ true → r ≡ firstNo qs → r ≡ firstNo (ask n b ∷ qs)
-unfolding firstNo
-first-yes n b qs r e p = rw (e, p)
+-- ---- a turn of the code: t is what the question's function answered. A yes is passed over, a no is the result.
 
-pub first-no : (n : ℕ) (b : Bool) (qs : List Asked) → b ≡ false → n ≡ firstNo (ask n b ∷ qs)
+pub asked-yes : (n : ℕ) (b t : Bool) (qs : List Asked) (r : ℕ) → t ≡ b → not t ≡ false → r ≡ firstNo qs → r ≡ firstNo (ask n b ∷ qs)
 unfolding firstNo
-first-no n b qs e = rw e
+asked-yes n b t qs r e h p = rw (← e, not-false t h, p)
 
-pub first-none : 0 ≡ firstNo []
+pub asked-no : (n : ℕ) (b t : Bool) (qs : List Asked) → t ≡ b → not t ≡ true → n ≡ firstNo (ask n b ∷ qs)
 unfolding firstNo
-first-none = refl
+asked-no n b t qs e h = rw (← e, not-true t h)
 
--- where the result is 0 the first answer was yes, and so were the others
-pub head-yes : (n : ℕ) (b : Bool) (qs : List Asked) → firstNo (ask (suc n) b ∷ qs) ≡ 0 → b ≡ true
+pub asked-all : 0 ≡ firstNo []
 unfolding firstNo
-head-yes n true qs e = refl
-head-yes n false qs e = absurd (omega arith)
+asked-all = refl
 
-pub tail-yes : (n : ℕ) (b : Bool) (qs : List Asked) → firstNo (ask (suc n) b ∷ qs) ≡ 0 → firstNo qs ≡ 0
-unfolding firstNo
-tail-yes n true qs e = e
-tail-yes n false qs e = absurd (omega arith)
+-- ---- every number is above 0, so that a result of 0 means yes throughout
 
--- every number is above 0, so that a result of 0 means yes throughout
 abbrev pub numbered : List Asked → Bool
 numbered [] = true
 numbered (ask n b ∷ qs) = ltb 0 n && numbered qs
 
--- questions that go on after others: a no before them is the result, and else theirs is
+-- where the result is 0 each answer is yes: the one at place k, from 0 on
+abbrev pub answer : List Asked → ℕ → Bool
+answer [] k = true
+answer (ask n b ∷ qs) zero = b
+answer (ask n b ∷ qs) (suc k) = answer qs k
+
+pub yes-at : (qs : List Asked) → numbered qs ≡ true → firstNo qs ≡ 0 → (k : ℕ) → answer qs k ≡ true
+unfolding firstNo
+yes-at [] p e k = refl
+yes-at (ask n true ∷ qs) p e zero = refl
+yes-at (ask n true ∷ qs) p e (suc k) = yes-at qs (and-right (ltb 0 n) (numbered qs) p) e k
+yes-at (ask zero false ∷ qs) p e k = absurd (false≢true p)
+yes-at (ask (suc n) false ∷ qs) p e k = let never : ⊥ = omega arith in absurd never
+
+-- ---- questions that go on after others: a no before them is the result, and else theirs is
+
 pub before-no : (qs rs : List Asked) (r : ℕ) → r ≡ firstNo qs → (r ≡ 0 → ⊥) → r ≡ firstNo (qs ++ rs)
 unfolding firstNo
 before-no [] rs r e h = absurd (h e)
@@ -53,11 +59,4 @@ before-yes (ask n true ∷ qs) rs first r e z p h = before-yes qs rs first r e z
 before-yes (ask zero false ∷ qs) rs first r e z p h = absurd (false≢true p)
 before-yes (ask (suc n) false ∷ qs) rs first r e z p h = let never : ⊥ = omega arith in absurd never
 
--- what a test has shown, said of the question
-pub is-true : (t s : Bool) → t ≡ s → t ≡ true → s ≡ true
-is-true t s e h = sym e ∙ h
-
-pub is-false : (t s : Bool) → t ≡ s → t ≡ false → s ≡ false
-is-false t s e h = sym e ∙ h
-
-pub ruleset ways = (needs, not-true, not-false, is-true, is-false, first-yes, first-no, first-none, before-no, before-yes)
+pub ruleset ways = (needs, asked-yes, asked-no, asked-all, before-no, before-yes)

@@ -2,3 +2,6 @@
 pub mod FirstNo
 pub mod Given
 pub mod Accepted
+pub mod FindAccepted
+pub mod FitAccepted
+pub mod EstimateAccepted

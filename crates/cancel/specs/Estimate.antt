@@ -1,10 +1,11 @@
--- `estimate_strong` at the door (01, part 4, with questions 1 to 6). Definitions only.
-use Prim.Native.Nat.{ℕ}
+-- `estimate_strong`, open to callers (01, part 4, with questions 1 to 6). Definitions only.
+use Prim.Native.Nat.{ℕ, _/_}
 use mathlib.Core.Bool.{true, false}
-use mathlib.Core.List.{List, [], _∷_}
+use mathlib.Core.List.{List, [], _∷_, _++_}
 use lib.ListN.{length}
 use lib.Ieee.{Float}
 use Rattle.float.specs.Ops.{zero}
+use Rattle.row.specs.Window.{stepBlocks}
 use Rattle.elements.specs.Found.{none, stored}
 use Rattle.elements.specs.Find.{elementsFound}
 use Rattle.fits.specs.declared.estimate.Estimate.{Estimate}
@@ -13,7 +14,16 @@ use Rattle.fits.specs.Estimate.{fitsFound, strongEstimate, strongElements, stro
 use Rattle.cancel.specs.declared.estimate.EstimateAnswer.{EstimateAnswer}
 use Rattle.cancel.specs.declared.estimate.EstimateAnswer.the-variants.{Refused, Done}
 use Rattle.cancel.specs.Answers.{Outcome, outcome, byNumber}
-use Rattle.cancel.specs.Questions.{firstNo, estimateQuestions}
+use Rattle.cancel.specs.Questions.{Asked, ask, firstNo, recordingQuestions, carrierOk, placesOk, workOk}
+
+-- It asks 1 to 6. Each of the two lists to be filled has floor(B/2) places.
+abbrev pub estimateQuestions : List Float → Float → Float → ℕ → ℕ → ℕ → List Asked
+estimateQuestions iq fs hint elements fits work =
+    let b = stepBlocks iq fs in
+    recordingQuestions iq fs ++ (
+    ask 4 (carrierOk fs hint) ∷ ask 5 (placesOk (b / 2) (elements / 4)) ∷ ask 5 (placesOk (b / 2) (fits / 8))
+    ∷ ask 6 (workOk b work) ∷ []
+    )
 
 -- a refusal returns nothing further
 abbrev pub noEstimate : Estimate

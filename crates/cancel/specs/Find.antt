@@ -1,16 +1,23 @@
--- `find_elements` at the door (01, part 3, with questions 1 to 6). Definitions only.
-use Prim.Native.Nat.{ℕ}
+-- `find_elements`, open to callers (01, part 3, with questions 1 to 6). Definitions only.
+use Prim.Native.Nat.{ℕ, _/_}
 use mathlib.Core.Bool.{true, false}
-use mathlib.Core.List.{List, [], _∷_}
+use mathlib.Core.List.{List, [], _∷_, _++_}
 use lib.ListN.{length}
 use lib.Ieee.{Float}
+use Rattle.row.specs.Window.{stepBlocks}
 use Rattle.elements.specs.declared.keying.Found.{Found}
 use Rattle.elements.specs.Found.{none, stored}
 use Rattle.elements.specs.Find.{foundOf, elementsFound}
 use Rattle.cancel.specs.declared.find.FindAnswer.{FindAnswer}
 use Rattle.cancel.specs.declared.find.FindAnswer.the-variants.{Refused, Done}
 use Rattle.cancel.specs.Answers.{Outcome, outcome, byNumber}
-use Rattle.cancel.specs.Questions.{firstNo, findQuestions}
+use Rattle.cancel.specs.Questions.{Asked, ask, firstNo, recordingQuestions, carrierOk, placesOk, workOk}
+
+-- It asks 1 to 6. The list to be filled has floor(B/2) places.
+abbrev pub findQuestions : List Float → Float → Float → ℕ → ℕ → List Asked
+findQuestions iq fs hz elements work =
+    let b = stepBlocks iq fs in
+    recordingQuestions iq fs ++ (ask 4 (carrierOk fs hz) ∷ ask 5 (placesOk (b / 2) (elements / 4)) ∷ ask 6 (workOk b work) ∷ [])
 
 -- the number and the values of each answer, with what the lent slices then hold
 abbrev pub findOutcome : FindAnswer → List Float → List Float → Outcome Found

@@ -1,16 +1,25 @@
--- `fit_elements` at the door (01, part 4, with questions 1 to 7). Definitions only.
-use Prim.Native.Nat.{ℕ}
+-- `fit_elements`, open to callers (01, part 4, with questions 1 to 7). Definitions only.
+use Prim.Native.Nat.{ℕ, _/_}
 use mathlib.Core.Bool.{true, false}
-use mathlib.Core.List.{List, [], _∷_}
+use mathlib.Core.List.{List, [], _∷_, _++_}
 use lib.ListN.{length}
 use lib.Ieee.{Float}
+use Rattle.row.specs.Window.{stepBlocks}
 use Rattle.fits.specs.declared.fit.ElementFit.{ElementFit}
 use Rattle.fits.specs.Fit.{fitsOf}
 use Rattle.fits.specs.Lists.{elementsIn, storedFits}
 use Rattle.cancel.specs.declared.fit.FitAnswer.{FitAnswer}
 use Rattle.cancel.specs.declared.fit.FitAnswer.the-variants.{Refused, Done}
 use Rattle.cancel.specs.Answers.{Outcome, outcome, byNumber}
-use Rattle.cancel.specs.Questions.{firstNo, fitQuestions}
+use Rattle.cancel.specs.Questions.{Asked, ask, firstNo, recordingQuestions, carrierOk, placesOk, workOk, elementsOk}
+
+-- It asks 1 to 7. The list to be filled has one place per given element.
+abbrev pub fitQuestions : List Float → Float → Float → List Float → ℕ → ℕ → ℕ → List Asked
+fitQuestions iq fs hz elements count fits work =
+    recordingQuestions iq fs ++ (
+    ask 4 (carrierOk fs hz) ∷ ask 5 (placesOk count (fits / 8)) ∷ ask 6 (workOk (stepBlocks iq fs) work)
+    ∷ ask 7 (elementsOk elements count) ∷ []
+    )
 
 -- the number and the value of each answer, fitted, with what the lent slices then hold
 abbrev pub fitOutcome : FitAnswer → List Float → List Float → Outcome ℕ

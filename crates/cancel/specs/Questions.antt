@@ -1,21 +1,22 @@
--- Questions at the door (01): each is one Bool, a call's order is one list of them with their numbers, and the first
--- no is the result, by its number. Definitions only.
+-- 01's questions: each is one Bool, a call's order is one list of them with their numbers, and the first no is the
+-- result, by its number. Questions 1 and 3 are `rateOk` and `allFinite` of crate row. Definitions only.
 use Prim.Native.Nat.{ℕ, _*_, _/_, _%_}
-use mathlib.Core.Bool.{Bool, true, false, _&&_, cond}
-use mathlib.Core.List.{List, [], _∷_, _++_}
+use mathlib.Core.Bool.{Bool, _&&_, cond}
+use mathlib.Core.List.{List, [], _∷_}
 use lib.Dec.{leb, eqb}
 use lib.ListN.{length}
-use lib.IntN.{pos}
-use lib.Ieee.{Float, fin, lt, le, eq}
+use lib.Ieee.{Float, lt, le, eq}
+use Rattle.lists.specs.Every.{every}
 use Rattle.float.specs.Ops.{_⊘_, zero, two}
 use Rattle.float.specs.Compare.{absOf}
 use Rattle.float.specs.Whole.{floorOf}
-use Rattle.lists.specs.Every.{every}
 use Rattle.float.specs.Size.{finiteF, sized, 2^}
 use Rattle.row.specs.Samples.{allFinite}
-use Rattle.row.specs.Window.{rateOk, stepBlocks}
+use Rattle.row.specs.Window.{rateOk}
 use Rattle.elements.specs.declared.element.KeyedElement.{KeyedElement}
 use Rattle.elements.specs.Found.{elementAt}
+use Rattle.fits.specs.declared.fit.ElementFit.{ElementFit}
+use Rattle.fits.specs.Lists.{fitAt}
 
 -- a question with its number, and whether the answer is yes
 pub data Asked : Type 0 where
@@ -26,19 +27,21 @@ unfoldable pub firstNo : List Asked → ℕ
 firstNo [] = 0
 firstNo (ask number answer ∷ qs) = cond answer (firstNo qs) number
 
--- 1. Is fs a number from 2,000 to 192,000? `rateOk` of crate row. 3. Is every sample finite? `allFinite` of crate row.
-
 -- 2. Is the f32 count even and at most 2,097,152?
 unfoldable pub countOk : ℕ → Bool
 countOk n = eqb (n % 2) 0 && leb n 2097152
+
+-- Every call asks 1 to 3 first; what it asks then stands in its own file.
+abbrev pub recordingQuestions : List Float → Float → List Asked
+recordingQuestions iq fs = ask 1 (rateOk fs) ∷ ask 2 (countOk (length iq)) ∷ ask 3 (allFinite iq) ∷ []
 
 -- 4. Is the hint or the carrier finite, of size at most fs/2?
 unfoldable pub carrierOk : Float → Float → Bool
 carrierOk fs hz = finiteF hz && le (absOf hz) (fs ⊘ two)
 
--- 5. Has a list to be filled enough places? A place is `per` numbers.
-unfoldable pub placesOk : ℕ → ℕ → ℕ → Bool
-placesOk per need len = leb need (len / per)
+-- 5. Has a list to be filled enough places?
+abbrev pub placesOk : ℕ → ℕ → Bool
+placesOk need places = leb need places
 
 -- 6. Has the f64 work slice at least 4 × B numbers?
 unfoldable pub workOk : ℕ → ℕ → Bool
@@ -56,41 +59,23 @@ positionOk x = le zero x && lt x (2^ 20) && eq (floorOf x) x
 unfoldable pub elementOk : KeyedElement → Bool
 elementOk e = sizeOk (e .start) && sizeOk (e .end) && positionOk (e .up) && positionOk (e .down)
 
--- Does the count fit its list, and is every given element so?
-unfoldable pub elementsOk : List Float → ℕ → Bool
-elementsOk l count = leb count (length l / 4) && every (λ p. elementOk (elementAt l p)) count
+-- Does a given count fit the places of its list, and is every record there so?
+unfoldable pub allOk : {A : Type 0} → (A → Bool) → (ℕ → A) → ℕ → ℕ → Bool
+allOk ok at places count = leb count places && every (λ p. ok (at p)) count
 
--- ---- the order in which calls ask
+abbrev pub elementsOk : List Float → ℕ → Bool
+elementsOk l count = allOk elementOk (elementAt l) (length l / 4) count
 
--- of the recording and its rate
-abbrev pub recordingQuestions : List Float → Float → List Asked
-recordingQuestions iq fs = ask 1 (rateOk fs) ∷ ask 2 (countOk (length iq)) ∷ ask 3 (allFinite iq) ∷ []
+-- Is every number of a fit so?
+unfoldable pub fitOk : ElementFit → Bool
+fitOk f =
+    elementOk (f .element) && sizeOk (f .gain .re) && sizeOk (f .gain .im) && sizeOk (f .«slope_rad_per_sample»)
+    && sizeOk (f .«ref_sample»)
 
--- and of the hint or the carrier
-abbrev pub carrierQuestions : List Float → Float → Float → List Asked
-carrierQuestions iq fs hz = recordingQuestions iq fs ++ (ask 4 (carrierOk fs hz) ∷ [])
+abbrev pub fitsOk : List Float → ℕ → Bool
+fitsOk l count = allOk fitOk (fitAt l) (length l / 8) count
 
--- `find_elements` asks 1 to 6; the last two are about B and the lengths of what is lent.
-abbrev pub findRoom : ℕ → ℕ → ℕ → List Asked
-findRoom b elements work = ask 5 (placesOk 4 (b / 2) elements) ∷ ask 6 (workOk b work) ∷ []
-
-abbrev pub findQuestions : List Float → Float → Float → ℕ → ℕ → List Asked
-findQuestions iq fs hz elements work = carrierQuestions iq fs hz ++ findRoom (stepBlocks iq fs) elements work
-
--- `estimate_strong` asks 1 to 6, and fills two lists.
-unfoldable pub listsOk : ℕ → ℕ → ℕ → Bool
-unfolding placesOk
-listsOk b elements fits = placesOk 4 (b / 2) elements && placesOk 8 (b / 2) fits
-
-abbrev pub estimateRoom : ℕ → ℕ → ℕ → ℕ → List Asked
-estimateRoom b elements fits work = ask 5 (listsOk b elements fits) ∷ ask 6 (workOk b work) ∷ []
-
-abbrev pub estimateQuestions : List Float → Float → Float → ℕ → ℕ → ℕ → List Asked
-estimateQuestions iq fs hz elements fits work = carrierQuestions iq fs hz ++ estimateRoom (stepBlocks iq fs) elements fits work
-
--- `fit_elements` asks 1 to 7, and fills one place per given element.
-abbrev pub fitRoom : ℕ → List Float → ℕ → ℕ → ℕ → List Asked
-fitRoom b elements count fits work = ask 5 (placesOk 8 count fits) ∷ ask 6 (workOk b work) ∷ ask 7 (elementsOk elements count) ∷ []
-
-abbrev pub fitQuestions : List Float → Float → Float → List Float → ℕ → ℕ → ℕ → List Asked
-fitQuestions iq fs hz elements count fits work = carrierQuestions iq fs hz ++ fitRoom (stepBlocks iq fs) elements count fits work
+-- Is every number of a given estimate so: its carrier, its carrier step, its elements and its fits?
+unfoldable pub estimateOk : Float → Float → List Float → ℕ → List Float → ℕ → Bool
+estimateOk carrier step elements element-count fits fit-count =
+    sizeOk carrier && sizeOk step && elementsOk elements element-count && fitsOk fits fit-count

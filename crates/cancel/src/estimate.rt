@@ -1,12 +1,39 @@
 // estimate_strong, open to callers.
-use crate::door::estimate_no;
+use crate::questions::carrier_ok;
+use crate::questions::find_places_ok;
+use crate::questions::recording_no;
+use crate::questions::work_ok;
 use fits::estimate::Estimate;
 ghost use mathlib.Core.Path.{_≡_};
-ghost use Rattle.cancel.specs.Estimate.{estimateOutcome, estimateRule};
+ghost use Rattle.cancel.specs.Questions.{firstNo};
+ghost use Rattle.cancel.specs.Estimate.{estimateQuestions, estimateOutcome, estimateRule};
 
 pub enum EstimateAnswer {
     Refused(u64),
     Done(Estimate),
+}
+
+// Questions 1 to 6: the number of the first no, 0 where every answer is yes.
+fn estimate_no(iq: &[f32], fs: f64, hint_hz: f64, elements: usize, fits: usize, work: usize) -> u64
+    ensures { λ r. ⌜ r ≡ firstNo (estimateQuestions (now (iq .entry)) fs «hint_hz» elements fits work) ⌝ }
+{
+    let no = recording_no(iq, fs);
+    if no != 0 {
+        return no;
+    }
+    if !carrier_ok(fs, hint_hz) {
+        return 4;
+    }
+    if !find_places_ok(iq, fs, elements / 4) {
+        return 5;
+    }
+    if !find_places_ok(iq, fs, fits / 8) {
+        return 5;
+    }
+    if !work_ok(iq, fs, work) {
+        return 6;
+    }
+    0
 }
 
 // Rust: estimate_strong. It asks first; the lists are lent, and the counts of the second pass are added.

@@ -1,12 +1,36 @@
 // find_elements, open to callers.
-use crate::door::find_no;
+use crate::questions::carrier_ok;
+use crate::questions::find_places_ok;
+use crate::questions::recording_no;
+use crate::questions::work_ok;
 use elements::Found;
 ghost use mathlib.Core.Path.{_≡_};
-ghost use Rattle.cancel.specs.Find.{findOutcome, findRule};
+ghost use Rattle.cancel.specs.Questions.{firstNo};
+ghost use Rattle.cancel.specs.Find.{findQuestions, findOutcome, findRule};
 
 pub enum FindAnswer {
     Refused(u64),
     Done(Found),
+}
+
+// Questions 1 to 6: the number of the first no, 0 where every answer is yes.
+fn find_no(iq: &[f32], fs: f64, carrier_hz: f64, elements: usize, work: usize) -> u64
+    ensures { λ r. ⌜ r ≡ firstNo (findQuestions (now (iq .entry)) fs «carrier_hz» elements work) ⌝ }
+{
+    let no = recording_no(iq, fs);
+    if no != 0 {
+        return no;
+    }
+    if !carrier_ok(fs, carrier_hz) {
+        return 4;
+    }
+    if !find_places_ok(iq, fs, elements / 4) {
+        return 5;
+    }
+    if !work_ok(iq, fs, work) {
+        return 6;
+    }
+    0
 }
 
 // Rust: find_elements. It asks first, counts, and keeps each element's positions; the list is lent.

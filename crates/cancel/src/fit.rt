@@ -1,11 +1,47 @@
 // fit_elements, open to callers.
-use crate::door::fit_no;
+use crate::questions::carrier_ok;
+use crate::questions::elements_ok;
+use crate::questions::given_places_ok;
+use crate::questions::recording_no;
+use crate::questions::work_ok;
 ghost use mathlib.Core.Path.{_≡_};
-ghost use Rattle.cancel.specs.Fit.{fitOutcome, fitRule};
+ghost use Rattle.cancel.specs.Questions.{firstNo};
+ghost use Rattle.cancel.specs.Fit.{fitQuestions, fitOutcome, fitRule};
 
 pub enum FitAnswer {
     Refused(u64),
     Done(usize),
+}
+
+// Questions 1 to 7: the number of the first no, 0 where every answer is yes.
+fn fit_no(
+    iq: &[f32],
+    fs: f64,
+    carrier_hz: f64,
+    elements: &[f64],
+    count: usize,
+    fits: usize,
+    work: usize,
+) -> u64
+    ensures { λ r. ⌜ r ≡ firstNo (fitQuestions (now (iq .entry)) fs «carrier_hz» (now (elements .entry)) count fits work) ⌝ }
+{
+    let no = recording_no(iq, fs);
+    if no != 0 {
+        return no;
+    }
+    if !carrier_ok(fs, carrier_hz) {
+        return 4;
+    }
+    if !given_places_ok(count, fits / 8) {
+        return 5;
+    }
+    if !work_ok(iq, fs, work) {
+        return 6;
+    }
+    if !elements_ok(elements, count) {
+        return 7;
+    }
+    0
 }
 
 // Rust: fit_elements. It asks first; the elements are given and the fits are lent as flat lists.

@@ -1,9 +1,9 @@
-// The calls open to callers: each asks the questions of 01 in their order and has no `requires`.
-pub mod door;
-pub mod estimate;
-pub mod find;
-pub mod fit;
-pub mod questions;
+// The calls open to callers, a file each: it asks 01's questions in its order, then does the work. None has a
+// `requires`; the questions themselves are not open.
+mod estimate;
+mod find;
+mod fit;
+mod questions;
 
 pub use estimate::EstimateAnswer;
 pub use estimate::estimate_strong;

@@ -1,14 +1,33 @@
-// Questions at the door: each answers yes or no, for the calls to ask in their order.
+// 01's questions, each once: yes or no. A call asks those about what it is given, in the order of its own file.
 use elements::KeyedElement;
 use elements::element_at;
+use fits::fit::ElementFit;
+use fits::list::fit_at;
 ghost use mathlib.Core.Path.{_≡_};
-ghost use Prim.Native.Nat.{_+_, _*_, _<_, _≤_};
+ghost use Prim.Native.Nat.{_/_};
 ghost use lib.ListN.{length};
-ghost use Rattle.float.specs.Size.{finiteF};
-ghost use Rattle.cancel.specs.Questions.{countOk, carrierOk, placesOk, listsOk, workOk, sizeOk, positionOk, elementOk, elementsOk};
+ghost use Rattle.row.specs.Window.{stepBlocks};
+ghost use Rattle.cancel.specs.Questions.{firstNo, recordingQuestions, countOk, carrierOk, placesOk, workOk, sizeOk, positionOk, elementOk, elementsOk, fitOk, fitsOk, estimateOk};
+
+// 1 to 3, which every call asks first: the number of the first no, 0 where there is none. Questions 1 and 3 are
+// answered by crate row.
+pub fn recording_no(iq: &[f32], fs: f64) -> u64
+    ensures { λ r. ⌜ r ≡ firstNo (recordingQuestions (now (iq .entry)) fs) ⌝ }
+{
+    if !row::rate_ok(fs) {
+        return 1;
+    }
+    if !count_ok(iq.len()) {
+        return 2;
+    }
+    if !row::all_finite(iq) {
+        return 3;
+    }
+    0
+}
 
 // 2: the f32 count is even and at most 2,097,152.
-pub fn count_ok(n: usize) -> bool
+fn count_ok(n: usize) -> bool
     ensures { λ r. ⌜ r ≡ countOk n ⌝ }
 {
     if n % 2 == 0 { n <= 2097152 } else { false }
@@ -25,44 +44,53 @@ pub fn carrier_ok(fs: f64, hz: f64) -> bool
     }
 }
 
-// 5: a list of `len` numbers has `need` places of `per` numbers each.
-pub fn places_ok(per: usize, need: usize, len: usize) -> bool
-    requires { ⌜ 0 < per ⌝ }
-    ensures { λ r. ⌜ r ≡ placesOk per need len ⌝ }
+// B, the number of whole steps in the recording, by which 5 and 6 measure.
+fn step_blocks(iq: &[f32], fs: f64) -> usize
+    ensures { λ r. ⌜ r ≡ stepBlocks (now (iq .entry)) fs ⌝ }
 {
-    need <= len / per
+    iq.len() / 2 / row::edge_step(fs)
 }
 
-// 5, of two lists to be filled: floor(B/2) elements and as many fits.
-pub fn lists_ok(b: usize, elements: usize, fits: usize) -> bool
-    ensures { λ r. ⌜ r ≡ listsOk b elements fits ⌝ }
+// 5, of a list that a find fills: it has at least floor(B/2) places.
+pub fn find_places_ok(iq: &[f32], fs: f64, places: usize) -> bool
+    ensures { λ r. ⌜ r ≡ placesOk (stepBlocks (now (iq .entry)) fs / 2) places ⌝ }
 {
-    if places_ok(4, b / 2, elements) {
-        places_ok(8, b / 2, fits)
+    step_blocks(iq, fs) / 2 <= places
+}
+
+// 5, of a list that is filled by given elements: it has at least a place for each.
+pub fn given_places_ok(count: usize, places: usize) -> bool
+    ensures { λ r. ⌜ r ≡ placesOk count places ⌝ }
+{
+    count <= places
+}
+
+// 6: the work slice has at least 4 × B numbers.
+pub fn work_ok(iq: &[f32], fs: f64, len: usize) -> bool
+    ensures { λ r. ⌜ r ≡ workOk (stepBlocks (now (iq .entry)) fs) len ⌝ }
+{
+    if step_blocks(iq, fs) <= len / 4 {
+        true
     } else {
         false
     }
 }
 
-// 6: the work slice has at least 4 × B numbers.
-pub fn work_ok(b: usize, len: usize) -> bool
-    ensures { λ r. ⌜ r ≡ workOk b len ⌝ }
-{
-    if b <= len / 4 { true } else { false }
-}
+// 2^200, the largest size of a given number.
+const LARGEST: f64 = 1606938044258990275541962092341162602522202993782792835301376.0;
 
-// A given number is finite and of size at most 2^200.
+// 7: a given number is finite and of size at most 2^200.
 fn size_ok(x: f64) -> bool
     ensures { λ r. ⌜ r ≡ sizeOk x ⌝ }
 {
     if float::finite(x) {
-        float::abs(x) <= 1606938044258990275541962092341162602522202993782792835301376.0
+        float::abs(x) <= LARGEST
     } else {
         false
     }
 }
 
-// A given position is a whole number from 0, below 2^20.
+// 7: a given up or down is a whole number from 0, below 2^20.
 fn position_ok(x: f64) -> bool
     ensures { λ r. ⌜ r ≡ positionOk x ⌝ }
 {
@@ -74,7 +102,7 @@ fn position_ok(x: f64) -> bool
     false
 }
 
-// An element holds numbers that are accepted.
+// 7, of an element.
 fn element_ok(e: KeyedElement) -> bool
     ensures { λ r. ⌜ r ≡ elementOk e ⌝ }
 {
@@ -90,7 +118,7 @@ fn element_ok(e: KeyedElement) -> bool
     position_ok(e.down)
 }
 
-// 7: the count fits its list, and every given element holds numbers that are accepted.
+// 7, of given elements: the count fits its list, and every element is accepted.
 pub fn elements_ok(list: &[f64], count: usize) -> bool
     ensures { λ r. ⌜ r ≡ elementsOk (now (list .entry)) count ⌝ }
 {
@@ -103,4 +131,62 @@ pub fn elements_ok(list: &[f64], count: usize) -> bool
         }
     }
     true
+}
+
+// 7, of a fit.
+fn fit_ok(f: ElementFit) -> bool
+    ensures { λ r. ⌜ r ≡ fitOk f ⌝ }
+{
+    if !element_ok(f.element) {
+        return false;
+    }
+    let gain = f.gain;
+    if !size_ok(gain.re) {
+        return false;
+    }
+    if !size_ok(gain.im) {
+        return false;
+    }
+    if !size_ok(f.slope_rad_per_sample) {
+        return false;
+    }
+    size_ok(f.ref_sample)
+}
+
+// 7, of given fits: the count fits its list, and every fit is accepted.
+pub fn fits_ok(list: &[f64], count: usize) -> bool
+    ensures { λ r. ⌜ r ≡ fitsOk (now (list .entry)) count ⌝ }
+{
+    if count > list.len() / 8 {
+        return false;
+    }
+    for p in 0..count {
+        if !fit_ok(fit_at(list, p)) {
+            return false;
+        }
+    }
+    true
+}
+
+// 7, of a given estimate.
+pub fn estimate_ok(
+    carrier_hz: f64,
+    carrier_step_hz: f64,
+    elements: &[f64],
+    element_count: usize,
+    fits: &[f64],
+    fit_count: usize,
+) -> bool
+    ensures { λ r. ⌜ r ≡ estimateOk «carrier_hz» «carrier_step_hz» (now (elements .entry)) «element_count» (now (fits .entry)) «fit_count» ⌝ }
+{
+    if !size_ok(carrier_hz) {
+        return false;
+    }
+    if !size_ok(carrier_step_hz) {
+        return false;
+    }
+    if !elements_ok(elements, element_count) {
+        return false;
+    }
+    fits_ok(fits, fit_count)
 }

@@ -10,11 +10,11 @@ use Rattle.elements.specs.Found.{none, stored}
 use Rattle.elements.specs.Find.{foundOf, elementsFound}
 use Rattle.fits.specs.Lists.{storedFits}
 use Rattle.fits.specs.Estimate.{fitsFound, strongEstimate, strongElements, strongFits}
-use Rattle.cancel.specs.Questions.{firstNo, findQuestions, fitQuestions, estimateQuestions}
+use Rattle.cancel.specs.Questions.{firstNo}
 use Rattle.cancel.specs.Answers.{Outcome, outcome, byNumber}
-use Rattle.cancel.specs.Find.{findRule}
-use Rattle.cancel.specs.Fit.{fitsGiven, fitRule}
-use Rattle.cancel.specs.Estimate.{noEstimate, estimateRule}
+use Rattle.cancel.specs.Find.{findQuestions, findRule}
+use Rattle.cancel.specs.Fit.{fitQuestions, fitsGiven, fitRule}
+use Rattle.cancel.specs.Estimate.{estimateQuestions, noEstimate, estimateRule}
 use Rattle.capi.specs.Calls.{Called, called, calledBy}
 
 -- a refusal's number is not 0

@@ -17,10 +17,10 @@ use Rattle.fits.specs.declared.estimate.Estimate.{Estimate}
 use Rattle.fits.specs.Lists.{storedFits}
 use Rattle.fits.specs.Estimate.{fitsFound, refined, strongEstimate, strongElements, strongFits}
 use Rattle.fits.proofs.Fitted.{fitted-few}
-use Rattle.cancel.specs.Questions.{firstNo, estimateQuestions}
+use Rattle.cancel.specs.Questions.{firstNo}
 use Rattle.cancel.specs.Answers.{outcome, byNumber}
-use Rattle.cancel.specs.Estimate.{noEstimate, estimateRule}
-use Rattle.cancel.proofs.Accepted.{estimate-accepted}
+use Rattle.cancel.specs.Estimate.{estimateQuestions, noEstimate, estimateRule}
+use Rattle.cancel.proofs.EstimateAccepted.{estimate-accepted}
 
 rate-bits : bits 0x40a7_7000_0000_0000 ≡ of 3000
 unfolding ofBits ofInt round

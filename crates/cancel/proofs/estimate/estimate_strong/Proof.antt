@@ -5,9 +5,10 @@ use denote.Ref.{now}
 use lib.ListN.{length}
 use borrow.Author.Needs.{needs}
 use Rattle.trig.specs.Sine.{sineTable}
-use Rattle.cancel.specs.Questions.{firstNo, estimateQuestions}
-use Rattle.cancel.specs.Estimate.{estimateRule}
-use Rattle.cancel.proofs.Accepted.{estimate-accepted, refused, accepted}
+use Rattle.cancel.specs.Questions.{firstNo}
+use Rattle.cancel.specs.Estimate.{estimateQuestions, estimateRule}
+use Rattle.cancel.proofs.Accepted.{refused, accepted}
+use Rattle.cancel.proofs.EstimateAccepted.{estimate-accepted}
 use Rattle.cancel.proofs.estimate.estimate_strong.Statement.{statement}
 use Rattle.cancel.proofs.estimate.estimate_strong.Tie as tie
 
@@ -26,7 +27,7 @@ estimate-strong-requires c κs =
     let known =
     estimate-accepted (now (s .args .iq)) (s .args .fs) (s .args .hint-hz) (length (now (s .args .elements))) (length (now (s .args .fits))) (length (now (s .args .work)))
     (all-yes (c .before .before .before .before)) in
-    (known .iq-ok, (known .rate-ok, (refl, (known .places, (known .fit-places, known .room)))))
+    (known .iq-ok, (known .rate-ok, (refl, (known .places, (known .fit-room, known .room)))))
 
 returns : tie.Need-returns
 unfolding estimateRule

@@ -5,9 +5,10 @@ use denote.Ref.{now}
 use lib.ListN.{length}
 use borrow.Author.Needs.{needs}
 use Rattle.trig.specs.Sine.{sineTable}
-use Rattle.cancel.specs.Questions.{firstNo, findQuestions}
-use Rattle.cancel.specs.Find.{findRule}
-use Rattle.cancel.proofs.Accepted.{find-accepted, refused, accepted}
+use Rattle.cancel.specs.Questions.{firstNo}
+use Rattle.cancel.specs.Find.{findQuestions, findRule}
+use Rattle.cancel.proofs.Accepted.{refused, accepted}
+use Rattle.cancel.proofs.FindAccepted.{find-accepted}
 use Rattle.cancel.proofs.find.find_elements.Statement.{statement}
 use Rattle.cancel.proofs.find.find_elements.Tie as tie
 

@@ -5,9 +5,10 @@ use denote.Ref.{now}
 use lib.ListN.{length}
 use borrow.Author.Needs.{needs}
 use Rattle.trig.specs.Sine.{sineTable}
-use Rattle.cancel.specs.Questions.{firstNo, fitQuestions}
-use Rattle.cancel.specs.Fit.{fitRule}
-use Rattle.cancel.proofs.Accepted.{fit-accepted, refused, accepted}
+use Rattle.cancel.specs.Questions.{firstNo}
+use Rattle.cancel.specs.Fit.{fitQuestions, fitRule}
+use Rattle.cancel.proofs.Accepted.{refused, accepted}
+use Rattle.cancel.proofs.FitAccepted.{fit-accepted}
 use Rattle.cancel.proofs.fit.fit_elements.Statement.{statement}
 use Rattle.cancel.proofs.fit.fit_elements.Tie as tie
 
@@ -26,7 +27,7 @@ fit-elements-requires c κs =
     let known =
     fit-accepted (now (s .args .iq)) (s .args .fs) (s .args .carrier-hz) (now (s .args .elements)) (s .args .count) (length (now (s .args .fits))) (length (now (s .args .work)))
     (all-yes (c .before .before .before)) in
-    (known .iq-ok, (known .rate-ok, (refl, (known .timed, (known .given, (known .fit-places, known .room))))))
+    (known .iq-ok, (known .rate-ok, (refl, (known .timed, (known .given, (known .fit-room, known .room))))))
 
 returns : tie.Need-returns
 unfolding fitRule

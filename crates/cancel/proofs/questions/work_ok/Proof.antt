@@ -10,15 +10,11 @@ use Rattle.cancel.proofs.questions.work_ok.Tie as tie
 
 returns : tie.Need-returns
 unfolding workOk
-returns c =
-    let fits : 4 * c .before .args .b ≤ c .before .args .len = omega arith in
-    sym (le-leb (4 * c .before .args .b) (c .before .args .len) fits)
+returns c = rw (← c .before .step-blocks .ensures) (sym (le-leb (4 * c .before .step-blocks .result) _ (omega arith)))
 
 returns-2 : tie.Need-returns-2
 unfolding workOk
-returns-2 c =
-    let over : c .before .args .len < 4 * c .before .args .b = omega arith in
-    sym (lt-leb (4 * c .before .args .b) (c .before .args .len) over)
+returns-2 c = rw (← c .before .step-blocks .ensures) (sym (lt-leb (4 * c .before .step-blocks .result) _ (omega arith)))
 
 pub work-ok-spec : {M : Type 1} → statement M
-work-ok-spec = tie.close (tie.spec returns returns-2)
+work-ok-spec = tie.close (tie.spec (λ c κs. search needs) returns returns-2)

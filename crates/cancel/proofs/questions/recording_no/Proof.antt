@@ -1,7 +1,7 @@
--- `cancel::door::recording_no` meets its contract. Assumes nothing.
+-- `cancel::questions::recording_no` meets its contract. Assumes nothing.
 use Rattle.cancel.proofs.FirstNo.{ways}
-use Rattle.cancel.proofs.door.recording_no.Statement.{statement}
-use Rattle.cancel.proofs.door.recording_no.Tie as tie
+use Rattle.cancel.proofs.questions.recording_no.Statement.{statement}
+use Rattle.cancel.proofs.questions.recording_no.Tie as tie
 
 pub recording-no-spec : {M : Type 1} → statement M
 recording-no-spec =
