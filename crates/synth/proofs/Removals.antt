@@ -13,7 +13,7 @@ use Rattle.complex.proofs.RowLaws.{zFill-none, zFill-turn0, length-zFill}
 use Rattle.lists.specs.Firsts.{firsts}
 use Rattle.row.specs.Window.{samples}
 use Rattle.fits.specs.declared.fit.ElementFit.{ElementFit}
-use Rattle.fits.specs.Lists.{fitAt, fitsIn}
+use Rattle.fits.specs.List.{fitAt, fitsIn}
 use Rattle.synth.specs.declared.span.Span.{Span}
 use Rattle.synth.specs.Span.{spanOf}
 use Rattle.synth.specs.Removal.{lessSingle, sentAt, takenAt, takenBy, subtracted}

@@ -9,7 +9,7 @@ ghost use lib.ListN.{length};
 ghost use Rattle.float.specs.Ops.{_⊘_};
 ghost use Rattle.trig.specs.Sine.{sineTable};
 ghost use Rattle.complex.specs.Rows.{zAt, zSet};
-ghost use Rattle.fits.specs.Lists.{fitsIn};
+ghost use Rattle.fits.specs.List.{fitsIn};
 ghost use Rattle.synth.specs.Removal.{lessSingle, sentAt, subtracted};
 ghost use Rattle.synth.specs.Inner.{takenPart};
 

@@ -3,7 +3,7 @@ use Prim.Native.Nat.{_-_, _≤_}
 use mathlib.Core.Path.{_≡_, ap, _∙_}
 use lib.ListN.{length}
 use Rattle.float.specs.Ops.{_⊘_}
-use Rattle.fits.specs.Lists.{fitsIn}
+use Rattle.fits.specs.List.{fitsIn}
 use Rattle.synth.specs.Removal.{subtracted}
 use Rattle.synth.proofs.Spans.{span-within}
 use Rattle.synth.proofs.Removals.{length-subtracted, subtracted-turn}
