@@ -67,16 +67,16 @@ module _ (fs cyc : Float) where
 
   -- ---- all fits, in order
 
-  pub length-subtracted : (buf : List Float) (fits : List ElementFit) → length (subtracted fs cyc buf fits) ≡ length buf
-  unfolding subtracted
-  length-subtracted buf [] = refl
-  length-subtracted buf (f ∷ fits) = length-subtracted (takenBy fs cyc f buf) fits ∙ length-taken f buf
-
   -- one more at the end of the list
   pub subtracted-more : (buf : List Float) (fits : List ElementFit) (f : ElementFit) → subtracted fs cyc buf (fits ++ (f ∷ [])) ≡ takenBy fs cyc f (subtracted fs cyc buf fits)
   unfolding subtracted
   subtracted-more buf [] f = refl
   subtracted-more buf (g ∷ fits) f = subtracted-more (takenBy fs cyc g buf) fits f
+
+  pub length-subtracted : (buf : List Float) (fits : List ElementFit) → length (subtracted fs cyc buf fits) ≡ length buf
+  unfolding subtracted
+  length-subtracted buf [] = refl
+  length-subtracted buf (f ∷ fits) = length-subtracted (takenBy fs cyc f buf) fits ∙ length-taken f buf
 
   -- the loop over the fits of a list, at place p: before it, a turn of it, and after it
   module _ (buf l : List Float) where
