@@ -5,11 +5,18 @@ use mathlib.Core.Bool.{Bool}
 use mathlib.Core.List.{List}
 use lib.ListN.{length, getD}
 use lib.Ieee.{Float, nan, eq}
+use Rattle.lists.specs.Those.{picked}
 use Rattle.complex.specs.declared.value.Complex.{Complex}
 use Rattle.complex.specs.Value.{cNormSqr}
 use Rattle.complex.specs.Rows.{zAt}
 use Rattle.classes.specs.declared.class.BlockClass.{BlockClass}
+use Rattle.classes.specs.declared.class.BlockClass.the-variants.{Edge, Interior, Gap}
 use Rattle.classes.specs.Class.{codeOf}
+use Rattle.fits.specs.declared.fit.ElementFit.{ElementFit}
+use Rattle.measure.specs.declared.residual.ResidualCheck.{ResidualCheck}
+use Rattle.measure.specs.Powers.{power}
+use Rattle.measure.specs.Left.{residualMean}
+use Rattle.measure.specs.Residual.{figuresOf}
 
 -- The work slice of nb blocks: first the blocks' means, as complex numbers, then the number of each block's class;
 -- what follows is free for a measure.
@@ -28,3 +35,12 @@ classIn w at c = hasCode w at (codeOf c)
 -- the power of block b in a slice that holds the blocks' means from complex number `at` on
 abbrev pub powerIn : List Float → ℕ → ℕ → Float
 powerIn w at b = cNormSqr (zAt w (at + b))
+
+-- the residual check of what a prepared slice holds
+abbrev pub powersIn : List Float → ℕ → BlockClass → (ℕ → Complex) → List Float
+powersIn w nb c z = picked (classIn w (2 * nb) c) (power z) nb
+
+unfoldable pub residualIn : List Float → ℕ → Float → List ElementFit → ResidualCheck
+residualIn w nb fs fits =
+    let left = residualMean fs nb fits (zAt w) in
+    figuresOf (powersIn w nb Edge left) (powersIn w nb Interior left) (powersIn w nb Gap left)

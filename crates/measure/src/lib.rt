@@ -1,2 +1,6 @@
 // What a recording's blocks show once a strong sender's estimate is known: cancel.rs's residual_check.
+pub mod left;
 pub mod powers;
+pub mod residual;
+
+pub use residual::ResidualCheck;
