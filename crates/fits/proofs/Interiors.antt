@@ -18,7 +18,6 @@ use Rattle.float.proofs.Intervals.{interval-is}
 use Rattle.row.specs.Window.{Rate}
 use Rattle.constants.specs.Constants.{RISE_S, MIN_INTERIOR_S}
 use Rattle.constants.proofs.Bits.{rise-bits}
-use Rattle.fits.specs.declared.interior.Interior.{Interior}
 use Rattle.fits.specs.declared.interior.Interior.the-variants.{Inside, Nothing}
 use Rattle.fits.specs.Interior.{loOf, hiOf, minLen, unfit, interiorOf}
 use Rattle.float.specs.Size.{sized}

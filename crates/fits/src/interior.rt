@@ -5,7 +5,7 @@ use constants::SLOPE_BLOCK_S;
 ghost use mathlib.Core.Path.{_≡_};
 ghost use Prim.Native.Nat.{_≤_};
 ghost use Rattle.float.specs.Ops.{of};
-ghost use Rattle.fits.specs.Interior.{interiorOf, blockOf, minLen};
+ghost use Rattle.fits.specs.Interior.{interiorOf, slopeBlock, minLen};
 
 // From the first sample up to, not including, `past`; or nothing, where the element is too short or leaves the
 // recording.
@@ -23,7 +23,7 @@ fn min_len(fs: f64) -> f64
 
 // Rust: `block` in `fit_elements`.
 pub fn slope_block(fs: f64) -> usize
-    ensures { λ r. ⌜ r ≡ blockOf fs ⌝ }
+    ensures { λ r. ⌜ r ≡ slopeBlock fs ⌝ }
 {
     float::to_whole(float::max(float::round(SLOPE_BLOCK_S * fs), 1.0))
 }

@@ -2,19 +2,19 @@
 // Point b is the pair (phase, weight) at place b of the work slice, where a row of complex numbers has its number b;
 // its time is computed.
 ghost use mathlib.Core.Path.{_≡_};
-ghost use Prim.Native.Nat.{_+_, _*_, _≤_, _<_};
+ghost use Prim.Native.Nat.{_+_, _*_, _≤_};
 ghost use lib.ListN.{length};
 ghost use Rattle.lists.specs.Sums.{total};
 ghost use Rattle.fits.specs.Line.{timeOf, weighted, moment, lineSlope};
 ghost use Rattle.fits.specs.Inner.{phaseIn, weightIn};
 
-// The middle of block b of an interior that begins at i0.
+// Rust: `t` in `fit_elements`, of block b of an interior that begins at i0.
 pub fn time_of(i0: usize, block: usize, b: usize) -> f64
     requires { ⌜ i0 + b * block ≤ 1048576 ⌝ }
     requires { ⌜ block ≤ 1048576 ⌝ }
     ensures { λ r. ⌜ r ≡ timeOf i0 block b ⌝ }
 {
-    float::whole::exact(i0 + b * block) + (float::whole::exact(block) - 1.0) / 2.0
+    row::centre(i0 + b * block, block)
 }
 
 // The sums of the weights, of the weighted times and of the weighted phases.

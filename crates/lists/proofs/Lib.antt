@@ -8,6 +8,7 @@
 -- Those     `those-append`, `those-shorter`; `picked-cong`, `length-picked`
 -- Kept      the loop that stores what passes: `keep-none`, `keep-yes`, `keep-no`, `keep-done`; `length-keep`, `keep-part`,
 --           `getD-keep`, `getD-keep-below`
+-- Members   `member-at`, `map-same`; which ones pass a test: `those-are`, `those-others`, `those-same`
 -- Sums      loops that add: `fSum-none`, `fSum-turn`, `fSum-done`, `fSum-cong`; `over-more`
 pub mod Fill
 pub mod Firsts
@@ -15,4 +16,5 @@ pub mod Every
 pub mod Count
 pub mod Those
 pub mod Kept
+pub mod Members
 pub mod Sums

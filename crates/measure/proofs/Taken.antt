@@ -15,7 +15,7 @@ use Rattle.complex.specs.Value.{cSub, cDiv}
 use Rattle.complex.specs.Rows.{zAt, zSet}
 use Rattle.complex.proofs.RowLaws.{zAt-zSet-same, zAt-zSet-other}
 use Rattle.lists.specs.Firsts.{firsts}
-use Rattle.fits.specs.Lists.{fitAt, fitsIn}
+use Rattle.fits.specs.List.{fitAt, fitsIn}
 use Rattle.fits.specs.declared.fit.ElementFit.{ElementFit}
 use Rattle.synth.specs.declared.span.Span.{Span}
 use Rattle.synth.specs.Span.{spanOf}

@@ -11,7 +11,7 @@ ghost use Prim.Native.Nat.{ℕ, _+_, _*_, _≤_, _<_, min, max};
 ghost use lib.ListN.{length};
 ghost use Rattle.trig.specs.Sine.{sineTable};
 ghost use Rattle.complex.specs.Rows.{zAt};
-ghost use Rattle.fits.specs.Lists.{fitsIn};
+ghost use Rattle.fits.specs.List.{fitsIn};
 ghost use Rattle.measure.specs.Left.{takenFrom, lessSpan, lessFit, lessFits};
 
 // A fit's synthesis at n samples taken off a mean of len.

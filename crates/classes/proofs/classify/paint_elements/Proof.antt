@@ -2,7 +2,7 @@
 use Prim.Native.Nat.{_≤_, _-_}
 use mathlib.Core.Path.{_≡_}
 use lib.ListN.{length}
-use Rattle.fits.specs.Lists.{elementsIn}
+use Rattle.elements.specs.Element.{elementsIn}
 use Rattle.classes.specs.Classify.{inTurn}
 use Rattle.classes.specs.Inner.{elementPainted}
 use Rattle.classes.proofs.Turns.{turns-none, turns-next, turns-done}

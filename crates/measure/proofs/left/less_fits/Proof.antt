@@ -5,7 +5,7 @@ use mathlib.Core.Path.{_≡_}
 use lib.ListN.{length}
 use borrow.Author.Needs.{needs}
 use Rattle.complex.specs.Rows.{zAt}
-use Rattle.fits.specs.Lists.{fitsIn}
+use Rattle.fits.specs.List.{fitsIn}
 use Rattle.measure.specs.Left.{lessFits}
 use Rattle.measure.proofs.Taken.{fits-none, fits-turn, fits-done}
 use Rattle.measure.proofs.left.less_fits.Statement.{statement}
