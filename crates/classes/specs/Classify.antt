@@ -5,7 +5,8 @@ use Prim.Native.Nat.{ℕ, _*_, _/_}
 use mathlib.Core.Bool.{Bool, _&&_, _||_, cond}
 use mathlib.Core.List.{List, [], _∷_, _++_, map}
 use lib.Dec.{leb, ltb}
-use lib.Ieee.{Float, lt, toUnsigned}
+use lib.ListN.{length, getD}
+use lib.Ieee.{Float, nan, lt, eq, toUnsigned}
 use Rattle.float.specs.Ops.{_⊕_, _⊖_, _⊗_, _⊘_, of, zero, one, two}
 use Rattle.float.specs.Compare.{maxOf}
 use Rattle.float.specs.Whole.{floorOf, ceilOf}
@@ -17,7 +18,7 @@ use Rattle.fits.specs.declared.fit.ElementFit.{ElementFit}
 use Rattle.classes.specs.declared.class.BlockClass.{BlockClass}
 use Rattle.classes.specs.declared.class.BlockClass.the-variants.{Edge, Interior, Gap, Other}
 use Rattle.classes.specs.declared.classify.ClassCounts.{ClassCounts}
-use Rattle.classes.specs.Class.{isClass}
+use Rattle.classes.specs.Class.{codeOf, isClass}
 
 -- the start and the end of an element, which are the Rust's own fields of it
 pub record Times : Type 0 where
@@ -106,3 +107,10 @@ countsOf class blocks =
       gap = countTo (λ b. isClass Gap (class b)) blocks;
       other = countTo (λ b. isClass Other (class b)) blocks;
     }
+
+-- the same of a slice that holds the number of each block's class: the counts of the row that it holds (`counts-hold`)
+unfoldable pub countIn : List Float → BlockClass → ℕ
+countIn l c = countTo (λ b. eq (getD l b nan) (codeOf c)) (length l)
+
+abbrev pub countsIn : List Float → ClassCounts
+countsIn l = record { edge = countIn l Edge; interior = countIn l Interior; gap = countIn l Gap; other = countIn l Other }

@@ -17,7 +17,7 @@ ghost use Rattle.elements.specs.Element.{elementsIn};
 ghost use Rattle.fits.specs.List.{fitsIn};
 ghost use Rattle.classes.specs.declared.class.BlockClass.the-variants.{Edge, Interior, Other};
 ghost use Rattle.classes.specs.Class.{codeOf, codesOf};
-ghost use Rattle.classes.specs.Classify.{timesOf, blocksOf, firstFrom, pastLast, inRange, inside, atEdge, onRim, inTurn, classOf};
+ghost use Rattle.classes.specs.Classify.{timesOf, blocksOf, firstFrom, pastLast, inRange, inside, atEdge, onRim, inTurn, classOf, countIn, countsIn};
 ghost use Rattle.classes.specs.Inner.{painted, amid, elementPainted, fitPainted};
 
 // How many blocks have each class.
@@ -231,4 +231,29 @@ pub fn classify_blocks(
     paint_elements(fs, len, elements, element_count, class);
     paint_fits(fs, len, fits, fit_count, class);
     paint_rim(fs, len, n, class);
+}
+
+// How many blocks have the class c, in a slice that holds the number of each block's class.
+pub fn count_class(class: &[f64], c: BlockClass) -> usize
+    ensures { λ r. ⌜ r ≡ countIn (now (class .entry)) c ⌝ }
+{
+    let k = code(c);
+    let blocks = class.len();
+    let mut count: usize = 0;
+    for b in 0..blocks {
+        count = count + (class[b] == k) as usize;
+    }
+    count
+}
+
+// How many blocks have each class.
+pub fn count_classes(class: &[f64]) -> ClassCounts
+    ensures { λ r. ⌜ r ≡ countsIn (now (class .entry)) ⌝ }
+{
+    ClassCounts {
+        edge: count_class(class, BlockClass::Edge),
+        interior: count_class(class, BlockClass::Interior),
+        gap: count_class(class, BlockClass::Gap),
+        other: count_class(class, BlockClass::Other),
+    }
 }

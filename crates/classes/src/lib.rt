@@ -7,3 +7,5 @@ pub use class::code;
 pub use class::is_class;
 pub use classify::ClassCounts;
 pub use classify::classify_blocks;
+pub use classify::count_class;
+pub use classify::count_classes;
