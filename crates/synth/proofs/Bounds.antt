@@ -6,13 +6,12 @@ use mathlib.Core.Path.{sym, ap}
 use mathlib.Core.Bool.{Bool, true, false, cond}
 use lib.Dec.{T, lit≤}
 use lib.Ieee.{Float, nan, inf, fin, le, eq, neg, down}
-use Rattle.float.specs.Ops.{_⊖_, _⊗_, _⊘_, of, two, zero as nought}
+use Rattle.float.specs.Ops.{_⊘_, two, zero as nought}
 use Rattle.float.specs.Size.{sized}
 use Rattle.float.proofs.Within.{Within, le-within}
 use Rattle.float.proofs.Bounds.{Bounded, bounded-zero, bounded-half, bounded-one, bounded-more, bounded-cond, bounded-add, bounded-sub, bounded-mul}
 use Rattle.trig.proofs.Bounds.{sine-bounded, cosine-bounded}
 use Rattle.constants.specs.Constants.{RISE_S}
-use Rattle.complex.specs.declared.value.Complex.{Complex}
 use Rattle.complex.specs.Value.{cZero, cMul, cPolar}
 use Rattle.complex.proofs.Bounds.{CBounded, cbounded-zero, cbounded-mul}
 use Rattle.elements.specs.declared.element.KeyedElement.{KeyedElement}

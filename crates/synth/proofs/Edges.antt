@@ -1,7 +1,7 @@
 -- The row of 01's edge table that speaks of a span: fs 3,000, ones at 100..199 of 300. Computed from the definition.
 use mathlib.Core.Path.{_≡_, refl, ap}
-use mathlib.Core.List.{List, [], _∷_, map}
-use lib.Ieee.{Float, round, add, sub, mul, lt, isNan, ofInt, ofBits, toUnsigned}
+use mathlib.Core.List.{[], _∷_, map}
+use lib.Ieee.{round, add, sub, mul, lt, isNan, ofInt, ofBits, toUnsigned}
 use Rattle.float.specs.Ops.{of, fraction}
 use Rattle.float.specs.Compare.{maxOf}
 use Rattle.float.specs.Whole.{floorOf, ceilOf, wholeBy}

@@ -10,7 +10,6 @@ use lib.Seq.{length-take-le, set-append-left, getD-take, getD-drop}
 use lib.Ieee.{Float, nan}
 use borrow.Rule.Slice.PartMut.{midOf, postOf, putMid, put-same, mid-len}
 use Rattle.complex.specs.declared.value.Complex.{Complex}
-use Rattle.complex.specs.Value.{cNew}
 use Rattle.complex.specs.Rows.{zAt, zSet, zFill}
 use Rattle.complex.proofs.RowLaws.{length-zFill, zAt-zSet-same, zAt-zSet-other}
 

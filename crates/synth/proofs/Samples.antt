@@ -1,5 +1,5 @@
--- What `subtract` leaves, sample by sample: each sample is what the fits whose spans cover it leave of it, in their order
--- (`subtracted-at`); one that no span covers is as it was (`outside-spans`).
+-- What `subtract` leaves, sample by sample: each sample is what the fits whose spans cover it leave of it, in their
+-- order (`subtracted-at`); one that no span covers is as it was (`outside-spans`).
 use Prim.Native.Nat.{ℕ, _+_, _-_, _/_, _≤_, _<_}
 use native.Mathlib.Omega.{arith}
 use mathlib.Core.Path.{_≡_, refl, sym, ap, _∙_}

@@ -6,6 +6,7 @@ use Rattle.complex.specs.Rows.{zAt, zFill}
 use Rattle.fits.specs.declared.fit.ElementFit.{ElementFit}
 use Rattle.synth.specs.Removal.{takenAt}
 
--- a part of a buffer, whose first sample is number lo of the recording, with its first n samples less the fit's synthesis
+-- a part of a buffer, whose first sample is number lo of the recording, with its first n samples less the fit's
+-- synthesis
 unfoldable pub takenPart : Float → Float → ElementFit → ℕ → List Float → ℕ → List Float
 takenPart fs cyc f lo part n = zFill part 0 (λ j. takenAt fs cyc f (lo + j) (zAt part j)) n
