@@ -7,7 +7,6 @@ mod clock;
 mod library;
 mod library_calls;
 mod numbers;
-mod rust_run;
 mod table;
 
 use clock::{least, Contender};
@@ -15,7 +14,7 @@ use library_calls::Bench;
 use num_complex::Complex32;
 use oracle::random::Random;
 use oracle::signals::{real, senders, Sender};
-use oracle::{by_platform, by_stand_ins, records};
+use oracle::{by_platform, by_stand_ins, records, rust_run};
 use std::hint::black_box;
 use table::{head, line, RUST};
 

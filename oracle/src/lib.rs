@@ -7,6 +7,7 @@ pub mod questions;
 pub mod random;
 pub mod records;
 pub mod run;
+pub mod rust_run;
 pub mod signals;
 pub mod stand_ins;
 

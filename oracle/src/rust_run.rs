@@ -1,9 +1,9 @@
-//! The run of document 01, part 7, over the Rust's functions alone, for either set of functions below it.
+//! The run of document 01, part 7, over the Rust's functions alone, for either set of functions below it: whether it took.
 
 macro_rules! run_of {
     ($name:ident, $module:ident) => {
         pub fn $name(buf: &mut [num_complex::Complex32], fs: f64, hint_hz: f64) -> bool {
-            use oracle::$module as rust;
+            use crate::$module as rust;
             let est = rust::estimate_strong(buf, fs, hint_hz);
             let residual = rust::residual_check(buf, fs, &est);
             let evidence = rust::second_carrier_evidence(buf, fs, &est);
