@@ -4,7 +4,7 @@
 use crate::answers::{recording, RECORDINGS};
 use num_complex::Complex32;
 use oracle::random::Random;
-use oracle::{by_platform, by_stand_ins, records, rust_run};
+use oracle::{by_platform, by_stand_ins, records};
 
 /// Slope of the first fit at the hint, then step and carrier of the estimate.
 macro_rules! estimated {
@@ -42,7 +42,9 @@ fn show(what: &str, value: &dyn Fn(usize) -> f32, tilt: f32) {
     let theirs = estimated!(by_platform, &iq, 3_000.0, 0.0);
     println!("  {what}");
     for (name, [slope, step, carrier]) in [("stand-ins", ours), ("platform", theirs)] {
-        println!("     {name:9}  slope {slope:12.5e} radians a sample, step {step:12.5e} Hz, carrier {carrier:12.5e} Hz");
+        println!(
+            "     {name:9}  slope {slope:12.5e} radians a sample, step {step:12.5e} Hz, carrier {carrier:12.5e} Hz"
+        );
     }
 }
 
@@ -68,7 +70,7 @@ fn drop_outs() {
         largest = largest.max(away);
         fits += (ours.fits.len() != theirs.fits.len()) as u32;
         let took = |run: fn(&mut [Complex32], f64, f64) -> bool| run(&mut iq.clone(), fs, hint);
-        taken += (took(rust_run::by_stand_ins) != took(rust_run::by_platform)) as u32;
+        taken += (took(by_stand_ins::way_in::run) != took(by_platform::way_in::run)) as u32;
     }
     println!("  4. The recordings of two senders below, each with 20 drop-outs of 1 ms (zeros in place of samples):");
     println!("     carriers more than 1e-6 Hz apart in {apart} of {RECORDINGS}, by at most {largest:.3e} Hz;");

@@ -29,8 +29,12 @@ const ENDS: [(f64, f64); 6] =
     [(5e-324, 5e-324), (5e-324, 0.0), (1e-200, -1e-200), (1e200, 0.0), (f64::MAX, f64::MAX), (f64::MAX, 5e-324)];
 
 pub fn print() {
-    println!("Special points: signed zeros, infinities, NaN, the ends of the format. Of the points asked, those where the");
-    println!("stand-in answers something else than the platform, beyond the last places (all NaNs are one, both zeros two).");
+    println!(
+        "Special points: signed zeros, infinities, NaN, the ends of the format. Of the points asked, those where the"
+    );
+    println!(
+        "stand-in answers something else than the platform, beyond the last places (all NaNs are one, both zeros two)."
+    );
     println!("{:6} {:44} {:>22} {:>22}", "", "of", "stand-in", "platform");
     one("sin", stand_ins::sin, f64::sin);
     one("cos", stand_ins::cos, f64::cos);
@@ -46,9 +50,8 @@ fn one(name: &str, ours: fn(f64) -> f64, platform: fn(f64) -> f64) {
 
 fn two(name: &str, ours: fn(f64, f64) -> f64, platform: fn(Complex64) -> f64) {
     let pairs = PART.iter().flat_map(|&re| PART.map(|im| (re, im))).chain(ENDS);
-    let points: Vec<_> = pairs
-        .map(|(re, im)| (format!("({re:?}, {im:?})"), ours(re, im), platform(Complex64::new(re, im))))
-        .collect();
+    let points: Vec<_> =
+        pairs.map(|(re, im)| (format!("({re:?}, {im:?})"), ours(re, im), platform(Complex64::new(re, im)))).collect();
     list(name, &points);
 }
 
