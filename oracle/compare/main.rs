@@ -1,8 +1,9 @@
-//! Compares every call of the linked library with the oracle, on the same inputs: figures, lists and buffers bit for bit
-//! (all NaNs one, both zeros one), refusals, and the numbers that must not be written.
+//! Compares every call of the linked library with the oracle, on the same inputs: figures, lists and buffers bit for
+//! bit (all NaNs one, both zeros one), refusals, and the numbers that must not be written.
 //!
-//! First come the limits, the same in every run but for the numbers drawn from S. Then for N seconds cases by seed: a case
-//! is made from its seed alone, the first from S, the next from S + 1, and so on. How far it is goes to standard error.
+//! First come the limits, the same in every run but for the numbers drawn from S. Then for N seconds cases by seed: a
+//! case is made from its seed alone, the first from S, the next from S + 1, and so on. How far it is goes to standard
+//! error.
 
 mod ask;
 #[path = "../link/library.rs"]

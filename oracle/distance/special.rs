@@ -1,5 +1,5 @@
-//! Signed zeros, infinities, NaN and sizes at the ends of the format: the stand-ins beside the platform's functions. Here
-//! both zeros are two.
+//! Signed zeros, infinities, NaN and sizes at the ends of the format: the stand-ins beside the platform's functions.
+//! Here both zeros are two.
 
 use num_complex::Complex64;
 use oracle::stand_ins;

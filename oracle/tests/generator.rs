@@ -44,7 +44,8 @@ fn runs_of_each_kind() {
     }
 }
 
-/// Every call on every limit and on cases by seed, with estimates of every kind and with refusals: the oracle answers each.
+/// Every call on every limit and on cases by seed, with estimates of every kind and with refusals: the oracle answers
+/// each.
 #[test]
 fn every_call_answers() {
     let mut kinds = BTreeMap::new();

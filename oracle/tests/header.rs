@@ -1,5 +1,5 @@
-//! include/cancel.h declares each call with the parameters that src/calls.rs has: the types in their order, and how many
-//! figures. A call that the header does not have yet is named.
+//! include/cancel.h declares each call with the parameters that src/calls.rs has: the types in their order, and how
+//! many figures. A call that the header does not have yet is named.
 
 use oracle::calls::{call, CALLS, FUNCTIONS};
 

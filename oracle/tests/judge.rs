@@ -1,5 +1,5 @@
-//! That the comparison can fail: a made-up library does what the oracle answers, and is judged equal; then one bit of one
-//! number is turned, at a time, and just what document 01 leaves free may differ.
+//! That the comparison can fail: a made-up library does what the oracle answers, and is judged equal; then one bit of
+//! one number is turned, at a time, and just what document 01 leaves free may differ.
 
 use oracle::calls::{Call, Outcome, Slot, CALLS};
 use oracle::handed::Handed;
@@ -49,8 +49,8 @@ fn obey(call: &Call, handed: &mut Handed, outcome: &Outcome) -> u64 {
     }
 }
 
-/// Turns the lowest bit of some of the numbers, one at a time, guards included, and asks the judge each time. `free` says
-/// which places of the slice may hold anything.
+/// Turns the lowest bit of some of the numbers, one at a time, guards included, and asks the judge each time. `free`
+/// says which places of the slice may hold anything.
 fn turned<T: Bits>(
     handed: &mut Handed,
     slice: fn(&mut Handed) -> &mut Lent<T>,
