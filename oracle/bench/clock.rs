@@ -24,8 +24,8 @@ fn now() -> f64 {
 /// What is timed: each contender does the same work once.
 pub type Contender<'a> = Box<dyn FnMut() + 'a>;
 
-/// Nanoseconds that each contender takes, least of so many rounds. In each round all of them run in turn, so that a slow
-/// moment of the machine falls on all alike.
+/// Nanoseconds that each contender takes, least of so many rounds. In each round all of them run in turn, so that a
+/// slow moment of the machine falls on all alike.
 pub fn least(rounds: usize, contenders: &mut [Contender]) -> Vec<f64> {
     let mut least = vec![f64::INFINITY; contenders.len()];
     for _ in 0..rounds {

@@ -2,129 +2,179 @@
 //! turn, least of many rounds.
 
 mod clock;
-#[allow(dead_code)]
 #[path = "../link/library.rs"]
 mod library;
-mod library_calls;
 mod numbers;
-mod rust_run;
 mod table;
 
 use clock::{least, Contender};
-use library_calls::Bench;
 use num_complex::Complex32;
+use oracle::calls::{call, Slot};
+use oracle::handed::Handed;
+use oracle::limits::LONGEST;
 use oracle::random::Random;
+use oracle::records;
+use oracle::scene::{Recording, Scene};
 use oracle::signals::{real, senders, Sender};
-use oracle::{by_platform, by_stand_ins, records};
 use std::hint::black_box;
+use std::process::ExitCode;
 use table::{head, line, RUST};
 
-const LONGEST: usize = 1 << 20;
 const HINT_HZ: f64 = 300.0;
 
-fn main() {
+fn main() -> ExitCode {
     let words: Vec<String> = std::env::args().skip(1).collect();
     let rounds = match words.iter().map(String::as_str).collect::<Vec<_>>()[..] {
-        [] => 7,
-        ["--repeats", n] => n.parse().expect("--repeats: a whole number is to follow"),
-        _ => panic!("usage: bench [--repeats N]"),
+        [] => Ok(7),
+        ["--repeats", n] => n.parse().map_err(|_| "--repeats: a whole number is to follow".to_string()),
+        ["--repeats"] => Err("--repeats: a whole number is to follow".into()),
+        [word, ..] => Err(format!("{word} is not known; --repeats N is")),
     };
-    numbers::print(100 * rounds);
-    if library::present("cancel_find_elements") {
-        for fs in [3_000.0, 96_000.0, 192_000.0] {
-            at_rate(fs, rounds);
+    let rounds = match library::ask("cancel_find_elements") {
+        None => Err("nothing to time: linked with no library, or with one that has no cancel_find_elements".into()),
+        Some(_) => rounds,
+    };
+    match rounds {
+        Ok(rounds) => {
+            all(rounds);
+            ExitCode::SUCCESS
         }
-        lengths(rounds);
-        rows(rounds);
+        Err(message) => {
+            eprintln!("bench: {message}");
+            ExitCode::from(2)
+        }
     }
 }
 
-/// A strong sender, its neighbour and some noise.
-fn two_senders(n: usize, fs: f64) -> Vec<f32> {
-    let strong = Sender { hz: HINT_HZ, amplitude: 1.0, unit_s: 0.06 };
-    let weak = Sender { hz: HINT_HZ + 50.0, amplitude: 0.3, unit_s: 0.07 };
-    senders(n, fs, &[strong, weak], 0.001, &mut Random::new(1))
+fn all(rounds: usize) {
+    numbers::print(100 * rounds);
+    for fs in [3_000.0, 96_000.0, 192_000.0] {
+        at_rate(fs, rounds);
+    }
+    lengths(rounds);
+    rows(rounds);
 }
 
-/// Find, fit, estimate and the run on the longest recording at this rate.
+/// Times one line, if the library has the call.
+fn timed(what: &str, name: &str, scene: &Scene, rounds: usize, rust: [Contender; 2]) {
+    eprintln!("bench: {what}, {} samples at {} a second", scene.recording.iq.len() / 2, scene.recording.fs);
+    let Some(ask) = library::ask(name) else {
+        println!("{what:28} not in this library");
+        return;
+    };
+    // The slices are lent once, so that only the call itself is timed. A buffer starts each time as it was: the copy is
+    // a small part of the time, and the same for all.
+    let written = call(name).is_handed(Slot::buf);
+    let mut handed = Handed::lend(call(name), scene, &mut Random::new(1));
+    let library: Contender = Box::new(|| {
+        if written {
+            handed.recording.again();
+        }
+        assert_eq!(ask(&mut handed), 0, "{name} refuses");
+    });
+    let [platform, stood_in] = rust;
+    line(what, scene.recording.iq.len() / 2, &least(rounds, &mut [library, platform, stood_in]));
+}
+
+/// The same work by cancel.rs with the platform's functions and with the stand-ins: `$rust` stands for either module,
+/// `$est` for what it has at hand before the clock starts, `$buf` for a buffer that holds the samples at each start.
+macro_rules! either {
+    ($rust:ident, $est:ident in $both:expr, $work:expr) => {
+        [
+            {
+                use oracle::by_platform as $rust;
+                let $est = &$both.0;
+                Box::new(move || {
+                    black_box($work);
+                }) as Contender
+            },
+            {
+                use oracle::by_stand_ins as $rust;
+                let $est = &$both.1;
+                Box::new(move || {
+                    black_box($work);
+                }) as Contender
+            },
+        ]
+    };
+    ($rust:ident, $est:ident in $both:expr, $buf:ident = $samples:expr, $work:expr) => {{
+        let mut buffers = ($samples.to_vec(), $samples.to_vec());
+        [
+            {
+                use oracle::by_platform as $rust;
+                let $est = &$both.0;
+                Box::new(move || {
+                    let $buf = again(&mut buffers.0, $samples);
+                    black_box($work);
+                }) as Contender
+            },
+            {
+                use oracle::by_stand_ins as $rust;
+                let $est = &$both.1;
+                Box::new(move || {
+                    let $buf = again(&mut buffers.1, $samples);
+                    black_box($work);
+                }) as Contender
+            },
+        ]
+    }};
+}
+
+/// The buffer, holding the samples again.
+fn again<'a>(buffer: &'a mut [Complex32], samples: &[Complex32]) -> &'a mut [Complex32] {
+    buffer.copy_from_slice(samples);
+    buffer
+}
+
+/// Every call on the longest recording of a strong sender, its neighbour and some noise at this rate.
 fn at_rate(fs: f64, rounds: usize) {
     let iq = two_senders(LONGEST, fs);
-    let samples = records::samples(&iq);
-    let mut bench = Bench::new(&iq, fs);
-    let count = bench.find(&iq, fs, HINT_HZ);
-    println!("2^20 samples at {fs} a second, {count} elements: ns a sample, least of {rounds} rounds");
-    head("", &["library", RUST[0], RUST[1]]);
-    let in_turn = |what: &str, mut contenders: [Contender; 3]| line(what, LONGEST, &least(rounds, &mut contenders));
-
-    let mut b = Bench::new(&iq, fs);
-    in_turn(
-        "find_elements",
-        [
-            Box::new(|| {
-                b.find(&iq, fs, HINT_HZ);
-            }),
-            Box::new(|| drop(black_box(by_platform::find_elements(&samples, fs, HINT_HZ)))),
-            Box::new(|| drop(black_box(by_stand_ins::find_elements(&samples, fs, HINT_HZ)))),
-        ],
+    let samples = &records::samples(&iq)[..];
+    let scene = Scene::own(Recording { what: "2 senders".into(), fs, iq, hint_hz: HINT_HZ }, &mut Random::new(1));
+    println!(
+        "2^20 samples at {fs} a second, {} elements: ns a sample, least of {rounds} rounds",
+        scene.given.element_count
     );
-    if library::present("cancel_fit_elements") {
-        let plain = by_platform::find_elements(&samples, fs, HINT_HZ);
-        let stood_in = by_stand_ins::find_elements(&samples, fs, HINT_HZ);
-        in_turn(
-            "fit_elements",
-            [
-                Box::new(|| bench.fit(&iq, fs, HINT_HZ, count)),
-                Box::new(|| drop(black_box(by_platform::fit_elements(&samples, fs, HINT_HZ, &plain)))),
-                Box::new(|| drop(black_box(by_stand_ins::fit_elements(&samples, fs, HINT_HZ, &stood_in)))),
-            ],
-        );
-    }
-    if library::present("cancel_estimate_strong") {
-        in_turn(
-            "estimate_strong",
-            [
-                Box::new(|| bench.estimate(&iq, fs, HINT_HZ)),
-                Box::new(|| drop(black_box(by_platform::estimate_strong(&samples, fs, HINT_HZ)))),
-                Box::new(|| drop(black_box(by_stand_ins::estimate_strong(&samples, fs, HINT_HZ)))),
-            ],
-        );
-    }
-    if library::present("cancel_run") {
-        // Each run starts from the recording as it was; the copy is a small part of the time, and the same for all.
-        let (mut buf, mut plain, mut stood_in) = (iq.clone(), samples.clone(), samples.clone());
-        in_turn(
-            "run",
-            [
-                Box::new(|| {
-                    buf.copy_from_slice(&iq);
-                    bench.run(&mut buf, fs, HINT_HZ);
-                }),
-                Box::new(|| {
-                    plain.copy_from_slice(&samples);
-                    black_box(rust_run::by_platform(&mut plain, fs, HINT_HZ));
-                }),
-                Box::new(|| {
-                    stood_in.copy_from_slice(&samples);
-                    black_box(rust_run::by_stand_ins(&mut stood_in, fs, HINT_HZ));
-                }),
-            ],
-        );
-    }
+    head("", &["library", RUST[0], RUST[1]]);
+    let est = &(
+        oracle::by_platform::estimate_strong(samples, fs, HINT_HZ),
+        oracle::by_stand_ins::estimate_strong(samples, fs, HINT_HZ),
+    );
+    let timed = |what, name, rust| timed(what, name, &scene, rounds, rust);
+    timed("find_elements", "cancel_find_elements", either!(rust, _e in est, rust::find_elements(samples, fs, HINT_HZ)));
+    timed(
+        "fit_elements",
+        "cancel_fit_elements",
+        either!(rust, e in est, rust::fit_elements(samples, fs, HINT_HZ, &e.elements)),
+    );
+    timed(
+        "estimate_strong",
+        "cancel_estimate_strong",
+        either!(rust, _e in est, rust::estimate_strong(samples, fs, HINT_HZ)),
+    );
+    timed("residual_check", "cancel_residual_check", either!(rust, e in est, rust::residual_check(samples, fs, e)));
+    timed(
+        "second_carrier_evidence",
+        "cancel_second_carrier_evidence",
+        either!(rust, e in est, rust::second_carrier_evidence(samples, fs, e)),
+    );
+    timed("subtract", "cancel_subtract", either!(rust, e in est, buf = samples, rust::subtract(buf, fs, e)));
+    timed("run", "cancel_run", either!(rust, _e in est, buf = samples, rust::way_in::run(buf, fs, HINT_HZ)));
     println!();
 }
 
-/// Find beside both Rusts on one recording.
-fn find(what: &str, iq: &[f32], fs: f64, hz: f64, rounds: usize) {
-    let samples: Vec<Complex32> = records::samples(iq);
-    let mut bench = Bench::new(iq, fs);
-    let mut contenders: [Contender; 3] = [
-        Box::new(|| {
-            bench.find(iq, fs, hz);
-        }),
-        Box::new(|| drop(black_box(by_platform::find_elements(&samples, fs, hz)))),
-        Box::new(|| drop(black_box(by_stand_ins::find_elements(&samples, fs, hz)))),
-    ];
-    line(what, samples.len(), &least(rounds, &mut contenders));
+fn two_senders(n: usize, fs: f64) -> Vec<f32> {
+    let both = [Sender::keyed(HINT_HZ, 1.0, 0.06), Sender::keyed(HINT_HZ + 50.0, 0.3, 0.07)];
+    senders(n, fs, &both, 0.001, &mut Random::new(1))
+}
+
+/// Find beside both Rusts on one recording at 3,000 a second.
+fn find(what: &str, iq: Vec<f32>, hint_hz: f64, rounds: usize) {
+    const FS: f64 = 3_000.0;
+    let samples = &records::samples(&iq)[..];
+    let scene = Scene::least(Recording { what: what.into(), fs: FS, iq, hint_hz }, Default::default());
+    let rust = either!(rust, _e in ((), ()), rust::find_elements(samples, FS, hint_hz));
+    timed(what, "cancel_find_elements", &scene, rounds, rust);
 }
 
 /// Does find's cost grow with the samples alone? At step 1 the row is as long as the recording.
@@ -132,7 +182,7 @@ fn lengths(rounds: usize) {
     println!("find_elements by length, 3000 a second (step 1): ns a sample, least of {rounds} rounds");
     head("", &["library", RUST[0], RUST[1]]);
     for power in [16, 18, 20] {
-        find(&format!("2^{power} samples"), &two_senders(1 << power, 3_000.0), 3_000.0, HINT_HZ, rounds);
+        find(&format!("2^{power} samples"), two_senders(1 << power, 3_000.0), HINT_HZ, rounds);
     }
     println!();
 }
@@ -142,15 +192,10 @@ fn rows(rounds: usize) {
     println!("find_elements by row, 2^20 samples, 3000 a second (step 1): ns a sample, least of {rounds} rounds");
     head("", &["library", RUST[0], RUST[1]]);
     let rising = |k: usize| k as f32 / LONGEST as f32;
-    let kinds: [(&str, Vec<f32>); 5] = [
-        ("zero", real(LONGEST, |_| 0.0)),
-        ("equal", real(LONGEST, |_| 1.0)),
-        ("rising", real(LONGEST, rising)),
-        ("falling", real(LONGEST, |k| 1.0 - rising(k))),
-        ("alternating", real(LONGEST, |k| if k / 8 % 2 == 0 { 1.0 } else { 0.25 })),
-    ];
-    for (what, iq) in &kinds {
-        find(what, iq, 3_000.0, 0.0, rounds);
-    }
+    find("zero", real(LONGEST, |_| 0.0), 0.0, rounds);
+    find("equal", real(LONGEST, |_| 1.0), 0.0, rounds);
+    find("rising", real(LONGEST, rising), 0.0, rounds);
+    find("falling", real(LONGEST, |k| 1.0 - rising(k)), 0.0, rounds);
+    find("alternating", real(LONGEST, |k| if k / 8 % 2 == 0 { 1.0 } else { 0.25 }), 0.0, rounds);
     println!();
 }

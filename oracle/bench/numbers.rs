@@ -19,7 +19,7 @@ pub fn print(rounds: usize) {
     println!("Single numbers, ns each, least of {rounds} rounds");
     crate::table::head("", &["library", RUST[0], RUST[1]]);
     if library::present("cancel_sin") && library::present("cancel_cos") {
-        let library = over(&angles, |&x| unsafe { library::cancel_sin(x) + library::cancel_cos(x) });
+        let library = over(&angles, |&x| library::sin(x) + library::cos(x));
         let platform = over(&angles, |&x| platform_sin(x) + platform_cos(x));
         let stood_in = over(&angles, |&x| stand_in_sin(x) + stand_in_cos(x));
         line("sin and cos, a call each", COUNT, &least(rounds, &mut [library, platform, stood_in]));
@@ -27,21 +27,20 @@ pub fn print(rounds: usize) {
     if library::present("cancel_cos_sin") {
         let mut out = vec![0.0; 2 * COUNT];
         let library: Contender = Box::new(|| {
-            let done = unsafe { library::cancel_cos_sin(angles.as_ptr(), COUNT, out.as_mut_ptr(), 2 * COUNT) };
-            black_box(done);
+            black_box(library::cos_sin(angles.as_ptr(), COUNT, out.as_mut_ptr(), 2 * COUNT));
         });
         let platform = over(&angles, |&x| platform_sin(x) + platform_cos(x));
         let stood_in = over(&angles, |&x| stand_in_sin(x) + stand_in_cos(x));
         line("sin and cos, one call for all", COUNT, &least(rounds, &mut [library, platform, stood_in]));
     }
     if library::present("cancel_norm") {
-        let library = over(&parts, |&(re, im)| unsafe { library::cancel_norm(re, im) });
+        let library = over(&parts, |&(re, im)| library::norm(re, im));
         let platform = over(&parts, |&(re, im)| platform_norm(re, im));
         let stood_in = over(&parts, |&(re, im)| stand_in_norm(re, im));
         line("norm", COUNT, &least(rounds, &mut [library, platform, stood_in]));
     }
     if library::present("cancel_log10") {
-        let library = over(&powers, |&x| unsafe { library::cancel_log10(x) });
+        let library = over(&powers, |&x| library::log10(x));
         let platform = over(&powers, |&x| platform_log10(x));
         let stood_in = over(&powers, |&x| stand_in_log10(x));
         line("log10", COUNT, &least(rounds, &mut [library, platform, stood_in]));

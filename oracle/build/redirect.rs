@@ -49,6 +49,9 @@ pub fn redirected(text: &str) -> Result<String, String> {
 fn counted(text: &str, name: &str, times: usize) -> Result<(), String> {
     match text.matches(name).count() {
         found if found == times => Ok(()),
-        found => Err(format!("cancel.rs calls {name} {found} times, and {times} was expected: not the text that this redirection was written for")),
+        found => Err(format!(
+            "cancel.rs calls {name} {found} times, and {times} was expected: \
+             not the text that this redirection was written for"
+        )),
     }
 }

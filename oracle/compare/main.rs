@@ -1,30 +1,30 @@
-//! Compares every call of the linked library with the oracle, on the same inputs: figures, lists and buffers bit for bit
-//! (all NaNs one, both zeros one), refusals, and the numbers that must not be written.
+//! Compares every call of the linked library with the oracle, on the same inputs: figures, lists and buffers bit for
+//! bit (all NaNs one, both zeros one), refusals, and the numbers that must not be written.
 //!
-//! First come the limits, the same in every run but for the numbers drawn from S. Then for N seconds cases by seed: a case
-//! is made from its seed alone, the first from S, the next from S + 1, and so on.
+//! First come the limits, the same in every run but for the numbers drawn from S. Then for N seconds cases by seed: a
+//! case is made from its seed alone, the first from S, the next from S + 1, and so on. How far it is goes to standard
+//! error.
 
 mod ask;
-mod given;
-mod leaf;
-mod lent;
 #[path = "../link/library.rs"]
 mod library;
-mod limits;
-mod noes;
-mod recordings;
-mod scene;
+mod numbers;
 mod tally;
 
 use ask::{Asker, Compared, Difference};
+use oracle::limits::{self, Limit};
 use oracle::random::Random;
-use scene::{Recording, Scene};
+use oracle::scene::Scene;
+use oracle::{given, noes, recordings};
 use std::panic::{catch_unwind, AssertUnwindSafe};
 use std::process::ExitCode;
 use std::time::{Duration, Instant};
 
 /// Runs of less than this many seconds leave out the recordings of 2^20 samples.
 const LONG_RUN: u64 = 20;
+
+/// Seconds between two lines that say how far the cases by seed are.
+const TOLD: u64 = 10;
 
 struct Options {
     seconds: u64,
@@ -35,12 +35,12 @@ fn options() -> Result<Options, String> {
     let mut options = Options { seconds: 30, seed: 1 };
     let mut words = std::env::args().skip(1);
     while let Some(word) = words.next() {
-        let value = words.next().and_then(|v| v.parse().ok()).ok_or(format!("{word}: a whole number is to follow"))?;
-        match word.as_str() {
-            "--seconds" => options.seconds = value,
-            "--seed" => options.seed = value,
-            _ => return Err(format!("{word} is not known")),
-        }
+        let value = match word.as_str() {
+            "--seconds" => &mut options.seconds,
+            "--seed" => &mut options.seed,
+            _ => return Err(format!("{word} is not known; --seconds N and --seed S are")),
+        };
+        *value = words.next().and_then(|v| v.parse().ok()).ok_or(format!("{word}: a whole number is to follow"))?;
     }
     Ok(options)
 }
@@ -49,14 +49,16 @@ fn main() -> ExitCode {
     let options = match options() {
         Ok(options) => options,
         Err(message) => {
-            eprintln!("compare: {message}\nusage: compare [--seconds N] [--seed S]");
+            eprintln!("compare: {message}");
             return ExitCode::from(2);
         }
     };
-    if !library::CALLS.iter().any(|(_, present)| *present) {
-        eprintln!(
-            "compare: no call to compare: this program is linked with no library, or with one that has none of them"
-        );
+    if !library::all().any(|(_, present)| present) {
+        eprintln!("compare: no call to compare: linked with no library, or with one that has none of them");
+        return ExitCode::from(2);
+    }
+    if !library::undeclared().is_empty() {
+        eprintln!("compare: not declared in oracle/src/calls.rs: {}", library::undeclared().join(", "));
         return ExitCode::from(2);
     }
     let mut asker = Asker { tally: Default::default(), random: Random::new(options.seed) };
@@ -74,38 +76,49 @@ fn main() -> ExitCode {
     }
 }
 
-/// What is compared in every run, by name.
-type Limit = (&'static str, fn(&mut Asker) -> Compared);
-
 /// The number of cases compared by chance, and the first difference with where it was found.
 fn compare(asker: &mut Asker, options: &Options) -> (u64, Option<(String, Difference)>) {
     let seed = options.seed;
-    let limits: [Limit; 8] = [
-        ("special numbers", Asker::special_numbers),
-        ("hypotheses at their limits", |a| a.hypotheses(4_000)),
-        ("n around every window", Asker::windows),
-        ("rates around every change of step", Asker::changes_of_step),
-        ("edge table", Asker::edge_table),
-        ("ranks halfway", Asker::ranks),
-        ("questions at the door", Asker::questions),
-        ("2^20 samples", Asker::longest),
-    ];
-    let most = if options.seconds < LONG_RUN { limits.len() - 1 } else { limits.len() };
-    for (what, limit) in &limits[..most] {
-        asker.random = Random::new(seed);
-        if let Err(difference) = not_stopping(|| limit(asker)) {
-            return (0, Some((format!("seed {seed}, {what}"), difference)));
+    let named = |difference, what: &str| Some((format!("seed {seed}, {what}"), difference));
+    asker.random = Random::new(seed);
+    eprintln!("compare: special numbers");
+    if let Err(difference) = not_stopping(|| asker.special_numbers()) {
+        return (0, named(difference, "special numbers"));
+    }
+    let mut limits: Vec<Limit<Difference>> = limits::limits().to_vec();
+    if options.seconds >= LONG_RUN {
+        limits.push(("2^20 samples", limits::longest));
+    }
+    for (what, limit) in limits {
+        eprintln!("compare: {what}");
+        let mut last = String::new();
+        let mut each = |scene: &Scene| {
+            last = scene.recording.described();
+            asker.all(scene)
+        };
+        if let Err(difference) = not_stopping(|| limit(&mut Random::new(seed), &mut each)) {
+            return (0, named(difference, &format!("{what}: {last}")));
         }
     }
-    let end = Instant::now() + Duration::from_secs(options.seconds);
-    let mut cases = 0;
-    while cases == 0 || Instant::now() < end {
-        let seed = seed.wrapping_add(cases);
+    by_seed(asker, options)
+}
+
+/// Cases by seed, until the time is over.
+fn by_seed(asker: &mut Asker, options: &Options) -> (u64, Option<(String, Difference)>) {
+    let began = Instant::now();
+    let (mut cases, mut told) = (0, 0);
+    while cases == 0 || began.elapsed() < Duration::from_secs(options.seconds) {
+        let seed = options.seed.wrapping_add(cases);
         let mut what = String::new();
         if let Err(difference) = not_stopping(|| case(asker, seed, &mut what)) {
             return (cases, Some((format!("seed {seed}, {what}"), difference)));
         }
         cases += 1;
+        let seconds = began.elapsed().as_secs();
+        if seconds / TOLD > told {
+            told = seconds / TOLD;
+            eprintln!("compare: {cases} cases by seed, {seconds} of {} seconds", options.seconds);
+        }
     }
     (cases, None)
 }
@@ -118,24 +131,20 @@ fn not_stopping(compared: impl FnOnce() -> Compared) -> Compared {
     })
 }
 
-/// All calls on one recording, then on what the door refuses of it; and some numbers. `what` says what was compared last.
+/// All calls on one recording, then on what is refused of it; and some numbers. `what` says what was compared last.
 fn case(asker: &mut Asker, seed: u64, what: &mut String) -> Compared {
     let mut r = Random::new(seed);
     let recording = recordings::recording(&mut r);
-    *what = described(&recording);
+    *what = recording.described();
     let given = given::estimate(&recording, &mut r);
     let admitted = Scene::new(recording, given, &mut r);
     let refused = [noes::refused(&admitted, &mut r), noes::refused(&admitted, &mut r)];
-    asker.random = r;
+    asker.random = r.clone();
     for scene in [&admitted, &refused[0], &refused[1]] {
-        *what = described(&scene.recording);
+        *what = scene.recording.described();
         asker.all(scene)?;
     }
     *what = "numbers".into();
     asker.numbers(200)?;
-    asker.hypotheses(20)
-}
-
-fn described(rec: &Recording) -> String {
-    format!("{}, fs {:?}, {} floats, hint {:?}", rec.what, rec.fs, rec.iq.len(), rec.hint_hz)
+    limits::hypotheses(20, &mut r, &mut |scene| asker.all(scene))
 }

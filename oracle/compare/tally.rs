@@ -1,13 +1,16 @@
 //! How many answers of each call were compared, and of which kinds.
 
 use crate::library;
+use oracle::calls::Outcome;
+
+/// How the kind of a refusal begins.
+const REFUSED: &str = "refused by";
 
 #[derive(Clone, Default)]
 struct Row {
     compared: u64,
-    refused: u64,
-    /// Answers by kind, such as lists that are not empty or runs that took.
-    kinds: Vec<(&'static str, u64)>,
+    /// Answers by kind, such as lists that are not empty or runs that took, and refusals by number.
+    kinds: Vec<(String, u64)>,
 }
 
 #[derive(Default)]
@@ -24,36 +27,48 @@ impl Tally {
         &mut self.rows[at].1
     }
 
-    pub fn equal(&mut self, call: &'static str, refused: bool) {
+    /// One more answer of the call that was equal.
+    pub fn equal(&mut self, call: &'static str, outcome: &Outcome) {
         let row = self.row(call);
         row.compared += 1;
-        row.refused += refused as u64;
-    }
-
-    pub fn kind(&mut self, call: &'static str, kind: &'static str) {
-        let row = self.row(call);
-        match row.kinds.iter_mut().find(|(name, _)| *name == kind) {
-            Some((_, times)) => *times += 1,
-            None => row.kinds.push((kind, 1)),
+        match outcome {
+            Err(number) => row.count(&format!("{REFUSED} {number}")),
+            Ok(answer) => answer.kinds.iter().for_each(|kind| row.count(kind)),
         }
     }
 
-    /// One line a call: equal of compared. `differing` is the call that ended the comparison, if one did.
+    /// One more number of the function that was equal.
+    pub fn equal_number(&mut self, function: &'static str) {
+        self.row(function).compared += 1;
+    }
+
+    /// One line a call: equal of compared, then how many of each kind. `differing` is the call that ended the
+    /// comparison, if one did.
     pub fn print(&self, differing: Option<&str>) {
-        for (call, present) in library::CALLS {
-            let row = self.rows.iter().find(|(name, _)| name == call).map_or_else(Row::default, |(_, row)| row.clone());
+        for (call, present) in library::all() {
+            let row =
+                self.rows.iter().find(|(name, _)| *name == call).map_or_else(Row::default, |(_, row)| row.clone());
             if !present {
                 println!("{call:31} not in this library, not compared");
                 continue;
             }
             let all = row.compared + (differing == Some(call)) as u64;
-            let mut kinds: Vec<String> = Vec::new();
-            if row.refused > 0 {
-                kinds.push(format!("{} refused", row.refused));
+            println!("{call:31} {} of {all} equal", row.compared);
+            let (mut refused, kinds): (Vec<_>, Vec<_>) =
+                row.kinds.iter().partition(|(name, _)| name.starts_with(REFUSED));
+            refused.sort();
+            for (name, times) in kinds.into_iter().chain(refused) {
+                println!("{:31} {times:8} {name}", "");
             }
-            kinds.extend(row.kinds.iter().map(|(name, times)| format!("{times} {name}")));
-            let kinds = if kinds.is_empty() { String::new() } else { format!(" ({})", kinds.join(", ")) };
-            println!("{call:31} {} of {all} equal{kinds}", row.compared);
+        }
+    }
+}
+
+impl Row {
+    fn count(&mut self, kind: &str) {
+        match self.kinds.iter_mut().find(|(name, _)| name == kind) {
+            Some((_, times)) => *times += 1,
+            None => self.kinds.push((kind.into(), 1)),
         }
     }
 }

@@ -4,7 +4,7 @@ use oracle::random::Random;
 use oracle::signals::{senders, Sender};
 use oracle::{by_platform, by_stand_ins, records};
 
-const RECORDINGS: u64 = 60;
+pub const RECORDINGS: u64 = 60;
 
 /// The largest differences of each figure.
 #[derive(Default)]
@@ -64,16 +64,22 @@ impl Apart {
     }
 }
 
+/// A recording of two senders, its rate and a hint that is 0.4 Hz off.
+pub fn recording(seed: u64) -> (Vec<f32>, f64, f64) {
+    let mut r = Random::new(seed);
+    let fs = r.between(2_000.0, 12_000.0);
+    let hz = r.between(-500.0, 500.0);
+    let strong = Sender::keyed(hz, 1.0, r.between(0.04, 0.08));
+    let weak = Sender::keyed(hz + r.between(15.0, 145.0), r.between(0.05, 0.4), 0.08);
+    let iq = senders((5.0 * fs) as usize, fs, &[strong, weak], 0.002, &mut r);
+    (iq, fs, hz + 0.4)
+}
+
 pub fn print() {
     let mut apart = Apart::default();
     for seed in 0..RECORDINGS {
-        let mut r = Random::new(seed);
-        let fs = r.between(2_000.0, 12_000.0);
-        let hz = r.between(-500.0, 500.0);
-        let strong = Sender { hz, amplitude: 1.0, unit_s: r.between(0.04, 0.08) };
-        let weak = Sender { hz: hz + r.between(15.0, 145.0), amplitude: r.between(0.05, 0.4), unit_s: 0.08 };
-        let iq = senders((5.0 * fs) as usize, fs, &[strong, weak], 0.002, &mut r);
-        apart.see(&iq, fs, hz + 0.4);
+        let (iq, fs, hint) = recording(seed);
+        apart.see(&iq, fs, hint);
     }
     println!(
         "cancel.rs with the stand-ins beside cancel.rs with the platform's functions: {} recordings",

@@ -2,6 +2,8 @@
 //! place of the platform's answer and absolute; and how far the answers of cancel.rs with either are apart.
 
 mod answers;
+mod signs;
+mod special;
 
 use num_complex::Complex64;
 use oracle::random::Random;
@@ -39,14 +41,12 @@ impl Worst {
 
     fn print(&self, name: &str) {
         let share = 100.0 * self.different as f64 / self.asked as f64;
-        print!("{name:34} {:9} {share:7.3} %", self.asked);
+        print!("{name:34} {share:7.3} %");
         if self.different == 0 {
             println!("  equal everywhere");
         } else {
-            println!(
-                "  {:9.3e} ulp at {:44}  {:9.3e} at {}",
-                self.ulps.0, self.ulps.1, self.absolute.0, self.absolute.1
-            );
+            println!("  {:9.3e} ulp  at {}", self.ulps.0, self.ulps.1);
+            println!("{:46}{:9.3e}      at {}", "", self.absolute.0, self.absolute.1);
         }
     }
 }
@@ -59,7 +59,7 @@ fn ulp(x: f64) -> f64 {
 
 fn main() {
     println!("Stand-ins of document 01, part 1, beside the platform's functions.");
-    println!("{:34} {:>9} {:>9}  largest errors", "function and where it was asked", "asked", "different");
+    println!("Of each, {TIMES} numbers; how many answers differ, and the largest errors: in ulps, then absolute.");
     let mut r = Random::new(1);
     angles("sin, 0 to a turn", stand_ins::sin, f64::sin, || r.between(0.0, TAU));
     angles("cos, 0 to a turn", stand_ins::cos, f64::cos, || r.between(0.0, TAU));
@@ -96,6 +96,10 @@ fn main() {
     pairs("arg, parts to 2^400", stand_ins::arg, arg, || any(&mut r));
     pairs("norm, parts -1 to 1", stand_ins::norm, norm, || unit(&mut r));
     pairs("norm, parts to 2^400", stand_ins::norm, norm, || any(&mut r));
+    println!();
+    special::print();
+    println!();
+    signs::print();
     println!();
     answers::print();
 }

@@ -1,73 +1,129 @@
-//! The calls of include/cancel.h, from the static library that this program is linked with. A call that the library
-//! lacks is marked as not present, and is never made.
+//! The calls of include/cancel.h, from the static library that this program is linked with: those that the library has.
+//! What they are is declared in src/calls.rs.
 
-macro_rules! linked {
-    ($($has:ident $name:ident($($parameter:ident: $kind:ty),*) -> $result:ty;)*) => {
+use oracle::handed::Handed;
+
+/// A call of the library on what it is handed: its status.
+pub type Ask = fn(&mut Handed) -> u64;
+
+/// Collects the C parameters of a call, slot by slot: their types, and their values of what is handed.
+#[allow(unused_macros)]
+macro_rules! called {
+    ($name:literal $h:ident () ($($kind:ty),*) ($($value:expr),*)) => {{
         extern "C" {
-            $(#[cfg($has)] pub fn $name($($parameter: $kind),*) -> $result;)*
+            #[link_name = $name]
+            fn linked($(_: $kind),*) -> u64;
         }
-        $(
-            #[cfg(not($has))]
-            #[allow(clippy::too_many_arguments)]
-            pub unsafe extern "C" fn $name($(_: $kind),*) -> $result {
-                unreachable!("the library has no {}", stringify!($name))
-            }
-        )*
-        /// Each call, and whether the library has it.
-        pub const CALLS: &[(&str, bool)] = &[$((stringify!($name), cfg!($has))),*];
+        // The slices are lent between guards, each with its own length.
+        unsafe { linked($($value),*) }
+    }};
+    ($name:literal $h:ident (iq $($rest:ident)*) ($($k:ty),*) ($($v:expr),*)) => {
+        called!($name $h ($($rest)*) ($($k,)* *const f32, usize) ($($v,)* $h.recording.pointer(), $h.recording.len()))
+    };
+    ($name:literal $h:ident (buf $($rest:ident)*) ($($k:ty),*) ($($v:expr),*)) => {
+        called!($name $h ($($rest)*) ($($k,)* *mut f32, usize) ($($v,)* $h.recording.pointer(), $h.recording.len()))
+    };
+    ($name:literal $h:ident (fs $($rest:ident)*) ($($k:ty),*) ($($v:expr),*)) => {
+        called!($name $h ($($rest)*) ($($k,)* f64) ($($v,)* $h.fs))
+    };
+    ($name:literal $h:ident (hint $($rest:ident)*) ($($k:ty),*) ($($v:expr),*)) => {
+        called!($name $h ($($rest)*) ($($k,)* f64) ($($v,)* $h.hint_hz))
+    };
+    ($name:literal $h:ident (elements $($rest:ident)*) ($($k:ty),*) ($($v:expr),*)) => {
+        called!($name $h ($($rest)*) ($($k,)* *mut f64, usize) ($($v,)* $h.elements.pointer(), $h.elements.len()))
+    };
+    ($name:literal $h:ident (fits $($rest:ident)*) ($($k:ty),*) ($($v:expr),*)) => {
+        called!($name $h ($($rest)*) ($($k,)* *mut f64, usize) ($($v,)* $h.fits.pointer(), $h.fits.len()))
+    };
+    ($name:literal $h:ident (places $($rest:ident)*) ($($k:ty),*) ($($v:expr),*)) => {
+        called!($name $h ($($rest)*) ($($k,)* *mut f64, usize) ($($v,)* $h.places.pointer(), $h.places.len()))
+    };
+    ($name:literal $h:ident (work $($rest:ident)*) ($($k:ty),*) ($($v:expr),*)) => {
+        called!($name $h ($($rest)*) ($($k,)* *mut f64, usize) ($($v,)* $h.work.pointer(), $h.work.len()))
+    };
+    ($name:literal $h:ident (figures $($rest:ident)*) ($($k:ty),*) ($($v:expr),*)) => {
+        called!($name $h ($($rest)*) ($($k,)* *mut f64) ($($v,)* $h.figures.pointer()))
+    };
+    ($name:literal $h:ident (given $($rest:ident)*) ($($k:ty),*) ($($v:expr),*)) => {
+        called!($name $h ($($rest)*) ($($k,)* *const f64, usize, usize)
+            ($($v,)* $h.given_elements.pointer(), $h.given_elements.len(), $h.element_count))
+    };
+    ($name:literal $h:ident (estimate $($rest:ident)*) ($($k:ty),*) ($($v:expr),*)) => {
+        called!($name $h ($($rest)*)
+            ($($k,)* f64, f64, *const f64, usize, usize, *const f64, usize, usize)
+            ($($v,)* $h.carrier_hz, $h.carrier_step_hz,
+                $h.given_elements.pointer(), $h.given_elements.len(), $h.element_count,
+                $h.given_fits.pointer(), $h.given_fits.len(), $h.fit_count))
+    };
+    ($name:literal $h:ident (evidence $($rest:ident)*) ($($k:ty),*) ($($v:expr),*)) => {
+        called!($name $h ($($rest)*) ($($k,)* u64, f64, u64, f64, f64)
+            ($($v,)* $h.evidence.gap_blocks, $h.evidence.hot_fraction, $h.evidence.present,
+                $h.evidence.offset_hz, $h.evidence.coherence))
     };
 }
 
-linked! {
-    has_cancel_find_elements cancel_find_elements(
-        iq: *const f32, iq_len: usize, fs: f64, carrier_hz: f64,
-        elements: *mut f64, elements_len: usize, work: *mut f64, work_len: usize, figures: *mut f64
-    ) -> u64;
-    has_cancel_fit_elements cancel_fit_elements(
-        iq: *const f32, iq_len: usize, fs: f64, carrier_hz: f64,
-        elements: *const f64, elements_len: usize, element_count: usize,
-        fits: *mut f64, fits_len: usize, work: *mut f64, work_len: usize, figures: *mut f64
-    ) -> u64;
-    has_cancel_estimate_strong cancel_estimate_strong(
-        iq: *const f32, iq_len: usize, fs: f64, hint_hz: f64,
-        elements: *mut f64, elements_len: usize, fits: *mut f64, fits_len: usize,
-        work: *mut f64, work_len: usize, figures: *mut f64
-    ) -> u64;
-    has_cancel_residual_check cancel_residual_check(
-        iq: *const f32, iq_len: usize, fs: f64, carrier_hz: f64, carrier_step_hz: f64,
-        elements: *const f64, elements_len: usize, element_count: usize,
-        fits: *const f64, fits_len: usize, fit_count: usize,
-        work: *mut f64, work_len: usize, figures: *mut f64
-    ) -> u64;
-    has_cancel_second_carrier_evidence cancel_second_carrier_evidence(
-        iq: *const f32, iq_len: usize, fs: f64, carrier_hz: f64, carrier_step_hz: f64,
-        elements: *const f64, elements_len: usize, element_count: usize,
-        fits: *const f64, fits_len: usize, fit_count: usize,
-        work: *mut f64, work_len: usize, figures: *mut f64
-    ) -> u64;
-    has_cancel_classify cancel_classify(
-        gap_blocks: u64, hot_fraction: f64, present: u64, offset_hz: f64, coherence: f64, figures: *mut f64
-    ) -> u64;
-    has_cancel_subtract cancel_subtract(
-        buf: *mut f32, buf_len: usize, fs: f64, carrier_hz: f64, carrier_step_hz: f64,
-        elements: *const f64, elements_len: usize, element_count: usize,
-        fits: *const f64, fits_len: usize, fit_count: usize
-    ) -> u64;
-    has_cancel_run cancel_run(
-        buf: *mut f32, buf_len: usize, fs: f64, hint_hz: f64,
-        elements: *mut f64, elements_len: usize, fits: *mut f64, fits_len: usize,
-        work: *mut f64, work_len: usize, figures: *mut f64
-    ) -> u64;
-    has_cancel_sin cancel_sin(x: f64) -> f64;
-    has_cancel_cos cancel_cos(x: f64) -> f64;
-    has_cancel_cos_sin cancel_cos_sin(angles: *const f64, angles_len: usize, out: *mut f64, out_len: usize) -> usize;
-    has_cancel_arg cancel_arg(re: f64, im: f64) -> f64;
-    has_cancel_norm cancel_norm(re: f64, im: f64) -> f64;
-    has_cancel_log10 cancel_log10(y: f64) -> f64;
-    has_cancel_narrow cancel_narrow(x: f64) -> f32;
+macro_rules! calls {
+    ($($name:literal $answer:ident($($slot:ident)*) $figures:literal;)*) => {
+        $(
+            #[cfg(has = $name)]
+            const fn $answer() -> Option<Ask> {
+                Some(|h: &mut Handed| called!($name h ($($slot)*) () ()))
+            }
+            #[cfg(not(has = $name))]
+            const fn $answer() -> Option<Ask> {
+                None
+            }
+        )*
+        /// Each call, if the library has it.
+        const CALLS: &[(&str, Option<Ask>)] = &[$(($name, $answer())),*];
+    };
 }
 
-/// Does the library have this call?
+oracle::each_call!(calls);
+
+macro_rules! functions {
+    ($($name:literal $function:ident($($x:ident: $kind:ty),*) -> $result:ty;)*) => {
+        $(
+            #[cfg(has = $name)]
+            #[allow(dead_code)]
+            pub fn $function($($x: $kind),*) -> $result {
+                extern "C" {
+                    #[link_name = $name]
+                    fn linked($($x: $kind),*) -> $result;
+                }
+                unsafe { linked($($x),*) }
+            }
+            #[cfg(not(has = $name))]
+            #[allow(dead_code)]
+            pub fn $function($(_: $kind),*) -> $result {
+                unreachable!("the library has no {}", $name)
+            }
+        )*
+        /// Each function of numbers, and whether the library has it.
+        const FUNCTIONS: &[(&str, bool)] = &[$(($name, cfg!(has = $name))),*];
+    };
+}
+
+oracle::each_function!(functions);
+
+/// The call of this name, if the library has it.
+pub fn ask(name: &str) -> Option<Ask> {
+    CALLS.iter().find(|(call, _)| *call == name).and_then(|(_, ask)| *ask)
+}
+
+/// Every call and function, and whether the library has it.
+pub fn all() -> impl Iterator<Item = (&'static str, bool)> {
+    CALLS.iter().map(|(name, ask)| (*name, ask.is_some())).chain(FUNCTIONS.iter().copied())
+}
+
+/// Does the library have this call or function?
 pub fn present(name: &str) -> bool {
-    CALLS.iter().any(|&(call, has)| has && call == name)
+    all().any(|(call, has)| has && call == name)
+}
+
+/// Names that the library has and nothing here declares: they would go uncompared.
+#[allow(dead_code)]
+pub fn undeclared() -> Vec<&'static str> {
+    let names = option_env!("CANCEL_CALLS").unwrap_or("");
+    names.split(' ').filter(|n| !n.is_empty() && !all().any(|(call, _)| call == *n)).collect()
 }

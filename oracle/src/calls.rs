@@ -1,227 +1,187 @@
-//! Each call of include/cancel.h as the oracle answers it: the questions, then the figures, lists and buffer.
+//! The calls of include/cancel.h, each declared once. The comparison, the measurement and the tests all read these two
+//! lists.
 
-use crate::by_stand_ins::way_in::fit_span;
-use crate::by_stand_ins::{classify as hypothesis_of, residual_check as residual_of};
-use crate::by_stand_ins::{second_carrier_evidence as evidence_of, subtract as subtract_from};
-use crate::by_stand_ins::{Hypothesis, ResidualCheck, SecondCarrierEvidence};
-use crate::questions::{self as ask, first_no};
-use crate::records::{self, Estimate, ELEMENT, FIT};
-use crate::{keydowns, run as runs};
+use crate::answers::{self, Answer};
+use crate::questions::{self as ask, first_no, Question};
+use crate::records::{ELEMENT, FIT};
+use crate::scene::Scene;
 
-/// What an accepted call leaves behind. Lists hold the records up to the count.
-#[derive(Default)]
-pub struct Answer {
-    pub figures: Vec<f64>,
-    pub elements: Vec<f64>,
-    pub fits: Vec<f64>,
-    /// The buffer, for calls that may write it.
-    pub buffer: Option<Vec<f32>>,
-    /// Floats of the buffer that the call visits; all others keep every bit.
-    pub spans: Vec<(usize, usize)>,
+/// Every call that is handed slices or evidence: its name, the oracle's answer to it, what it is handed in the order of
+/// its C parameters (`Slot` says what each is), and how many figures it answers.
+#[macro_export]
+macro_rules! each_call {
+    ($then:ident) => {
+        $then! {
+            "cancel_find_elements" find_elements(iq fs hint elements work figures) 4;
+            "cancel_fit_elements" fit_elements(iq fs hint given places work figures) 1;
+            "cancel_estimate_strong" estimate_strong(iq fs hint elements fits work figures) 7;
+            "cancel_residual_check" residual_check(iq fs estimate work figures) 5;
+            "cancel_second_carrier_evidence" second_carrier_evidence(iq fs estimate work figures) 5;
+            "cancel_classify" classify(evidence figures) 2;
+            "cancel_subtract" subtract(buf fs estimate) 0;
+            "cancel_run" run(buf fs hint elements fits work figures) 28;
+        }
+    };
 }
+
+/// Every function of numbers, which refuses nothing: its name, and its parameters and result.
+#[macro_export]
+macro_rules! each_function {
+    ($then:ident) => {
+        $then! {
+            "cancel_blocks" blocks(iq_len: usize, fs: f64) -> usize;
+            "cancel_sin" sin(x: f64) -> f64;
+            "cancel_cos" cos(x: f64) -> f64;
+            "cancel_cos_sin" cos_sin(angles: *const f64, angles_len: usize, out: *mut f64, out_len: usize) -> usize;
+            "cancel_arg" arg(re: f64, im: f64) -> f64;
+            "cancel_norm" norm(re: f64, im: f64) -> f64;
+            "cancel_log10" log10(y: f64) -> f64;
+            "cancel_narrow" narrow(x: f64) -> f32;
+        }
+    };
+}
+
+/// Something that a call is handed, named as in the declarations.
+#[allow(non_camel_case_types)]
+#[derive(Debug, Clone, Copy, PartialEq)]
+pub enum Slot {
+    /// The recording, only read.
+    iq,
+    /// The recording, to be written.
+    buf,
+    fs,
+    /// The hint, or the carrier of a find or fit.
+    hint,
+    /// The list of elements to be filled.
+    elements,
+    /// The list of fits to be filled.
+    fits,
+    /// Given elements and their count.
+    given,
+    /// The list of fits to be filled, one place for each given element.
+    places,
+    /// A given estimate: carrier, carrier step, elements with their count, fits with their count.
+    estimate,
+    /// The figures of an evidence.
+    evidence,
+    work,
+    /// The lent array of figures.
+    figures,
+}
+
+/// A call as it is declared.
+pub struct Call {
+    pub name: &'static str,
+    pub slots: &'static [Slot],
+    pub figures: usize,
+    answer: fn(&Scene) -> Answer,
+}
+
+macro_rules! calls {
+    ($($name:literal $answer:ident($($slot:ident)*) $figures:literal;)*) => {
+        pub const CALLS: &[Call] = &[
+            $(Call { name: $name, slots: &[$(Slot::$slot),*], figures: $figures, answer: answers::$answer }),*
+        ];
+    };
+}
+
+each_call!(calls);
+
+/// A function of numbers as it is declared: its name, the types of its parameters, the type of its result.
+pub struct Function {
+    pub name: &'static str,
+    pub parameters: &'static [&'static str],
+    pub result: &'static str,
+}
+
+macro_rules! functions {
+    ($($name:literal $function:ident($($x:ident: $kind:ty),*) -> $result:ty;)*) => {
+        pub const FUNCTIONS: &[Function] = &[
+            $(Function { name: $name, parameters: &[$(stringify!($kind)),*], result: stringify!($result) }),*
+        ];
+    };
+}
+
+each_function!(functions);
 
 /// An answer, or the number of the refusal.
 pub type Outcome = Result<Answer, u64>;
 
-/// An estimate as it is handed in: two numbers, and two lists with counts.
-#[derive(Clone, Copy)]
-pub struct Given<'a> {
-    pub carrier_hz: f64,
-    pub carrier_step_hz: f64,
-    pub elements: &'a [f64],
-    pub element_count: usize,
-    pub fits: &'a [f64],
-    pub fit_count: usize,
+/// The call of this name.
+pub fn call(name: &str) -> &'static Call {
+    CALLS.iter().find(|c| c.name == name).unwrap_or_else(|| panic!("no call {name}"))
 }
 
-impl Given<'_> {
-    fn question(&self) -> ask::Question<'_> {
-        let carrier = [self.carrier_hz, self.carrier_step_hz];
-        ask::given_estimate(carrier, (self.elements, self.element_count), (self.fits, self.fit_count))
+impl Call {
+    pub fn is_handed(&self, slot: Slot) -> bool {
+        self.slots.contains(&slot)
     }
 
-    fn estimate(&self) -> Estimate {
-        Estimate {
-            carrier_hz: self.carrier_hz,
-            carrier_step_hz: self.carrier_step_hz,
-            elements: records::elements(self.elements, self.element_count),
-            fits: records::fits(self.fits, self.fit_count),
+    fn is_handed_any(&self, slots: &[Slot]) -> bool {
+        slots.iter().any(|&s| self.is_handed(s))
+    }
+
+    /// The questions about what the call is given, in their order.
+    pub fn questions<'a>(&self, s: &'a Scene) -> Vec<Question<'a>> {
+        let rec = &s.recording;
+        let mut asked = Vec::new();
+        if self.is_handed(Slot::fs) {
+            asked.push(ask::rate(rec.fs));
+        }
+        if self.is_handed_any(&[Slot::iq, Slot::buf]) {
+            asked.push(ask::size(&rec.iq));
+            asked.push(ask::finite(&rec.iq));
+        }
+        if self.is_handed(Slot::hint) {
+            asked.push(ask::hint(rec.hint_hz, rec.fs));
+        }
+        for (slot, places) in [(Slot::elements, s.elements_len / ELEMENT), (Slot::fits, s.fits_len / FIT)] {
+            if self.is_handed(slot) {
+                asked.push(ask::room(places, &rec.iq, rec.fs));
+            }
+        }
+        if self.is_handed(Slot::places) {
+            asked.push(ask::room_for_each(s.places_len / FIT, s.given.element_count));
+        }
+        if self.is_handed(Slot::work) {
+            asked.push(ask::work(s.work_len, &rec.iq, rec.fs));
+        }
+        if self.is_handed(Slot::given) {
+            asked.push(ask::given_elements(&s.given));
+        }
+        if self.is_handed(Slot::estimate) {
+            asked.push(ask::given_estimate(&s.given));
+        }
+        asked
+    }
+
+    /// What document 01 and the Rust say of this call on this scene.
+    pub fn outcome(&self, s: &Scene) -> Outcome {
+        match first_no(&self.questions(s)) {
+            0 => {
+                let answer = (self.answer)(s);
+                assert_eq!(answer.figures.len(), self.figures, "figures of {}", self.name);
+                Ok(answer)
+            }
+            number => Err(number),
         }
     }
 }
 
-fn admitted(asked: &[ask::Question]) -> Result<(), u64> {
-    match first_no(asked) {
-        0 => Ok(()),
-        number => Err(number),
+impl Slot {
+    /// The types of its C parameters.
+    pub fn c_types(self) -> &'static [&'static str] {
+        match self {
+            Slot::iq => &["const float *", "size_t"],
+            Slot::buf => &["float *", "size_t"],
+            Slot::fs | Slot::hint => &["double"],
+            Slot::elements | Slot::fits | Slot::places | Slot::work => &["double *", "size_t"],
+            Slot::given => &["const double *", "size_t", "size_t"],
+            Slot::estimate => {
+                &["double", "double", "const double *", "size_t", "size_t", "const double *", "size_t", "size_t"]
+            }
+            Slot::evidence => &["uint64_t", "double", "uint64_t", "double", "double"],
+            Slot::figures => &["double *"],
+        }
     }
-}
-
-pub fn find_elements(iq: &[f32], fs: f64, carrier_hz: f64, elements_len: usize, work_len: usize) -> Outcome {
-    admitted(&[
-        ask::rate(fs),
-        ask::size(iq),
-        ask::finite(iq),
-        ask::hint(carrier_hz, fs),
-        ask::room(&[elements_len / ELEMENT], iq, fs),
-        ask::work(work_len, iq, fs),
-    ])?;
-    let found = keydowns::find(&records::samples(iq), fs, carrier_hz);
-    Ok(Answer {
-        figures: counts(&found).to_vec(),
-        elements: records::flat_elements(&found.elements),
-        ..Answer::default()
-    })
-}
-
-/// Key-downs, listed, short, airtime.
-fn counts(found: &keydowns::Found) -> [f64; 4] {
-    [found.key_downs, found.elements.len(), found.short, found.airtime].map(|n| n as f64)
-}
-
-pub fn fit_elements(
-    iq: &[f32],
-    fs: f64,
-    carrier_hz: f64,
-    elements: &[f64],
-    element_count: usize,
-    fits_len: usize,
-    work_len: usize,
-) -> Outcome {
-    admitted(&[
-        ask::rate(fs),
-        ask::size(iq),
-        ask::finite(iq),
-        ask::hint(carrier_hz, fs),
-        ask::room_for_each(fits_len / FIT, element_count),
-        ask::work(work_len, iq, fs),
-        ask::given_elements(elements, element_count),
-    ])?;
-    let given = records::elements(elements, element_count);
-    let fits = runs::fit(&records::samples(iq), fs, carrier_hz, &given);
-    Ok(Answer { figures: vec![fits.len() as f64], fits: records::flat_fits(&fits), ..Answer::default() })
-}
-
-/// What estimate and run ask.
-fn admitted_to_fill(
-    iq: &[f32],
-    fs: f64,
-    hint_hz: f64,
-    elements_len: usize,
-    fits_len: usize,
-    work_len: usize,
-) -> Result<(), u64> {
-    admitted(&[
-        ask::rate(fs),
-        ask::size(iq),
-        ask::finite(iq),
-        ask::hint(hint_hz, fs),
-        ask::room(&[elements_len / ELEMENT, fits_len / FIT], iq, fs),
-        ask::work(work_len, iq, fs),
-    ])
-}
-
-pub fn estimate_strong(
-    iq: &[f32],
-    fs: f64,
-    hint_hz: f64,
-    elements_len: usize,
-    fits_len: usize,
-    work_len: usize,
-) -> Outcome {
-    admitted_to_fill(iq, fs, hint_hz, elements_len, fits_len, work_len)?;
-    let (found, estimate) = runs::estimate(&records::samples(iq), fs, hint_hz);
-    let mut figures = vec![estimate.carrier_hz, estimate.carrier_step_hz];
-    figures.extend(counts(&found));
-    figures.push(estimate.fits.len() as f64);
-    Ok(Answer {
-        figures,
-        elements: records::flat_elements(&estimate.elements),
-        fits: records::flat_fits(&estimate.fits),
-        ..Answer::default()
-    })
-}
-
-/// What residual check and evidence ask.
-fn admitted_to_measure(iq: &[f32], fs: f64, given: &Given, work_len: usize) -> Result<(), u64> {
-    admitted(&[ask::rate(fs), ask::size(iq), ask::finite(iq), ask::work(work_len, iq, fs), given.question()])
-}
-
-pub fn residual_check(iq: &[f32], fs: f64, given: &Given, work_len: usize) -> Outcome {
-    admitted_to_measure(iq, fs, given, work_len)?;
-    let residual = residual_of(&records::samples(iq), fs, &given.estimate().strong());
-    Ok(Answer { figures: residual_figures(&residual).to_vec(), ..Answer::default() })
-}
-
-fn residual_figures(r: &ResidualCheck) -> [f64; 5] {
-    let [edge, interior, gap] = [r.edge_blocks, r.interior_blocks, r.gap_blocks].map(|n| n as f64);
-    [r.edge_over_neighbour_db, r.interior_over_neighbour_db, edge, interior, gap]
-}
-
-pub fn second_carrier_evidence(iq: &[f32], fs: f64, given: &Given, work_len: usize) -> Outcome {
-    admitted_to_measure(iq, fs, given, work_len)?;
-    let evidence = evidence_of(&records::samples(iq), fs, &given.estimate().strong());
-    Ok(Answer { figures: evidence_figures(&evidence).to_vec(), ..Answer::default() })
-}
-
-fn evidence_figures(e: &SecondCarrierEvidence) -> [f64; 5] {
-    let present = e.offset_hz.is_some() as u8 as f64;
-    [e.gap_blocks as f64, e.hot_fraction, present, e.offset_hz.unwrap_or(0.0), e.coherence]
-}
-
-pub fn classify(gap_blocks: u64, hot_fraction: f64, present: u64, offset_hz: f64, coherence: f64) -> Outcome {
-    let offset_hz = (present != 0).then_some(offset_hz);
-    let evidence = SecondCarrierEvidence { gap_blocks: gap_blocks as usize, hot_fraction, offset_hz, coherence };
-    let figures = hypothesis_figures(&hypothesis_of(&evidence)).to_vec();
-    Ok(Answer { figures, ..Answer::default() })
-}
-
-fn hypothesis_figures(h: &Hypothesis) -> [f64; 2] {
-    match h {
-        Hypothesis::OneSignal => [0.0, 0.0],
-        Hypothesis::TwoSignalCw { offset_hz } => [1.0, *offset_hz],
-        Hypothesis::NonCw => [2.0, 0.0],
-        Hypothesis::Unresolved => [3.0, 0.0],
-    }
-}
-
-/// The floats that the Rust's subtract visits for an estimate's fits.
-fn spans(estimate: &Estimate, fs: f64, n: usize) -> Vec<(usize, usize)> {
-    let span = |f: &records::Fit| fit_span(&f.fitted(), fs, n);
-    estimate.fits.iter().map(span).map(|(lo, hi)| (2 * lo, 2 * hi)).collect()
-}
-
-pub fn subtract(buf: &[f32], fs: f64, given: &Given) -> Outcome {
-    admitted(&[ask::rate(fs), ask::size(buf), ask::finite(buf), given.question()])?;
-    let (mut samples, estimate) = (records::samples(buf), given.estimate());
-    subtract_from(&mut samples, fs, &estimate.strong());
-    Ok(Answer {
-        buffer: Some(records::floats(&samples)),
-        spans: spans(&estimate, fs, samples.len()),
-        ..Answer::default()
-    })
-}
-
-pub fn run(buf: &[f32], fs: f64, hint_hz: f64, elements_len: usize, fits_len: usize, work_len: usize) -> Outcome {
-    admitted_to_fill(buf, fs, hint_hz, elements_len, fits_len, work_len)?;
-    let mut samples = records::samples(buf);
-    let run = runs::run(&mut samples, fs, hint_hz);
-    let estimate = &run.estimate;
-    let [key_downs, listed, short, airtime] = counts(&run.found);
-    let fitted = estimate.fits.len() as f64;
-    let mut figures = vec![run.samples as f64, run.window as f64, key_downs, listed, short];
-    figures.extend([fitted, listed - fitted, airtime, run.blocks as f64]);
-    figures.extend(run.classes.map(|n| n as f64));
-    figures.extend([estimate.carrier_hz, estimate.carrier_step_hz]);
-    figures.extend(residual_figures(&run.residual));
-    figures.extend(evidence_figures(&run.evidence));
-    figures.extend(hypothesis_figures(&run.hypothesis));
-    figures.push(run.taken as u8 as f64);
-    Ok(Answer {
-        figures,
-        elements: records::flat_elements(&estimate.elements),
-        fits: records::flat_fits(&estimate.fits),
-        buffer: Some(records::floats(&samples)),
-        spans: if run.taken { spans(estimate, fs, run.samples) } else { Vec::new() },
-    })
 }

@@ -1,12 +1,20 @@
 //! cancel.rs itself, built from the text of documents that stay outside this repository, and what document 01 adds to
-//! it: positions, counts, airtime, the run, the questions at the door. The proved port is held against this.
+//! it: positions, counts, airtime, the run, the questions. The proved port is held against this.
 
+pub mod answers;
 pub mod calls;
+pub mod given;
+pub mod handed;
 pub mod keydowns;
+pub mod lent;
+pub mod limits;
+pub mod noes;
 pub mod questions;
 pub mod random;
+pub mod recordings;
 pub mod records;
 pub mod run;
+pub mod scene;
 pub mod signals;
 pub mod stand_ins;
 

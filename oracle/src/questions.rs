@@ -1,7 +1,8 @@
-//! The questions at the door. Each is asked only if those before it were answered with yes.
+//! Document 01's seven questions. Each is asked only if those before it were answered with yes.
 
 use crate::by_stand_ins::way_in::edge_window;
 use crate::records::{ELEMENT, FIT};
+use crate::scene::Given;
 
 /// Most floats of a recording.
 pub const MOST_FLOATS: usize = 2_097_152;
@@ -27,8 +28,21 @@ pub fn steps(iq_len: usize, fs: f64) -> usize {
     iq_len / 2 / edge_window(fs).1
 }
 
+/// cancel_blocks: B, and 0 where the rate is refused.
+pub fn blocks(iq_len: usize, fs: f64) -> usize {
+    if rate_holds(fs) {
+        steps(iq_len, fs)
+    } else {
+        0
+    }
+}
+
+fn rate_holds(fs: f64) -> bool {
+    (2_000.0..=192_000.0).contains(&fs)
+}
+
 pub fn rate<'a>(fs: f64) -> Question<'a> {
-    question(1, move || (2_000.0..=192_000.0).contains(&fs))
+    question(1, move || rate_holds(fs))
 }
 
 pub fn size<'a>(iq: &'a [f32]) -> Question<'a> {
@@ -43,9 +57,9 @@ pub fn hint<'a>(hz: f64, fs: f64) -> Question<'a> {
     question(4, move || hz.is_finite() && hz.abs() <= fs / 2.0)
 }
 
-/// Have lists of so many places room for what a find can list?
-pub fn room<'a>(places: &'a [usize], iq: &'a [f32], fs: f64) -> Question<'a> {
-    question(5, move || places.iter().all(|&p| p >= steps(iq.len(), fs) / 2))
+/// Has a list of so many places room for what a find can list?
+pub fn room<'a>(places: usize, iq: &'a [f32], fs: f64) -> Question<'a> {
+    question(5, move || places >= steps(iq.len(), fs) / 2)
 }
 
 /// Has the list of fits a place for each given element?
@@ -58,16 +72,16 @@ pub fn work<'a>(len: usize, iq: &'a [f32], fs: f64) -> Question<'a> {
 }
 
 /// Given elements: their count fits the list, and their numbers are in range.
-pub fn given_elements<'a>(list: &'a [f64], count: usize) -> Question<'a> {
-    question(7, move || records_hold(list, count, ELEMENT))
+pub fn given_elements(given: &Given) -> Question<'_> {
+    question(7, || records_hold(&given.elements, given.element_count, ELEMENT))
 }
 
 /// A given estimate: its two numbers, its elements and its fits.
-pub fn given_estimate<'a>(carrier: [f64; 2], elements: (&'a [f64], usize), fits: (&'a [f64], usize)) -> Question<'a> {
-    question(7, move || {
-        carrier.into_iter().all(in_range)
-            && records_hold(elements.0, elements.1, ELEMENT)
-            && records_hold(fits.0, fits.1, FIT)
+pub fn given_estimate(given: &Given) -> Question<'_> {
+    question(7, || {
+        [given.carrier_hz, given.carrier_step_hz].into_iter().all(in_range)
+            && records_hold(&given.elements, given.element_count, ELEMENT)
+            && records_hold(&given.fits, given.fit_count, FIT)
     })
 }
 

@@ -1,12 +1,14 @@
-//! Made-up recordings: keyed senders with ramps and noise, and rows that are hard on a threshold or a selection.
+//! Made-up recordings: keyed senders with ramps, drift and noise, and rows that are hard on a threshold or a selection.
 
 use crate::random::Random;
 use crate::stand_ins::{cos, sin};
 use std::f64::consts::{PI, TAU};
 
-/// A keyed sender: where it stands, how strong, and how long its key unit is.
+/// A keyed sender: where it stands, how fast it drifts, how strong it is, and how long its key unit is.
+#[derive(Clone, Copy)]
 pub struct Sender {
     pub hz: f64,
+    pub drift_hz_s: f64,
     pub amplitude: f64,
     pub unit_s: f64,
 }
@@ -14,9 +16,25 @@ pub struct Sender {
 /// Raised-cosine ramp, 0 to 100 %.
 const RAMP_S: f64 = 5e-3;
 
+/// A key unit that no recording is as long as.
+const STEADY_S: f64 = 1e4;
+
 impl Sender {
+    pub fn keyed(hz: f64, amplitude: f64, unit_s: f64) -> Sender {
+        Sender { hz, drift_hz_s: 0.0, amplitude, unit_s }
+    }
+
+    /// A sender that is never keyed up.
+    pub fn steady(hz: f64, amplitude: f64) -> Sender {
+        Sender::keyed(hz, amplitude, STEADY_S)
+    }
+
+    pub fn drifting(self, drift_hz_s: f64) -> Sender {
+        Sender { drift_hz_s, ..self }
+    }
+
     /// Adds the sender's samples: marks of one or three units, spaces of one, three or seven.
-    pub fn add(&self, sum: &mut [(f64, f64)], fs: f64, r: &mut Random) {
+    fn add(&self, sum: &mut [(f64, f64)], fs: f64, r: &mut Random) {
         let phase = r.between(0.0, TAU);
         let mut at = r.between(0.0, 0.3) * fs;
         while at < sum.len() as f64 {
@@ -33,7 +51,8 @@ impl Sender {
         for (k, z) in sum.iter_mut().enumerate().take(hi).skip(lo) {
             let t = k as f64;
             let strength = self.amplitude * (ramp((t - start) / fs) - ramp((t - end) / fs));
-            let angle = ((self.hz / fs * t).rem_euclid(1.0) * TAU + phase).rem_euclid(TAU);
+            let cycles = (self.hz + self.drift_hz_s / 2.0 * (t / fs)) / fs * t;
+            let angle = (cycles.rem_euclid(1.0) * TAU + phase).rem_euclid(TAU);
             z.0 += strength * cos(angle);
             z.1 += strength * sin(angle);
         }
@@ -62,4 +81,14 @@ pub fn senders(n: usize, fs: f64, all: &[Sender], noise: f64, r: &mut Random) ->
 /// n samples, each by its number, the imaginary part 0.
 pub fn real(n: usize, value: impl Fn(usize) -> f32) -> Vec<f32> {
     (0..n).flat_map(|k| [value(k), 0.0]).collect()
+}
+
+/// n samples whose amplitude row at carrier 0 holds just these levels: whole numbers, so that every sum is exact. The
+/// blocks of a row differ from those eight before by what the row changes.
+pub fn leading_to(n: usize, step: usize, level: impl Fn(usize) -> i32) -> Vec<f32> {
+    let mut blocks = vec![level(0); 8.min(n / step)];
+    for i in blocks.len()..n / step {
+        blocks.push(blocks[i - 8] + 8 * (level(i - 7) - level(i - 8)));
+    }
+    real(n, |k| blocks.get(k / step).map_or(0.0, |&b| b as f32))
 }

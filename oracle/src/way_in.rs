@@ -18,10 +18,29 @@ pub mod way_in {
         super::fit_span(f, fs, n)
     }
 
+    /// The name of each block's class.
+    pub fn classes(blocks: usize, len: usize, fs: f64, n: usize, est: &StrongEstimate) -> Vec<String> {
+        super::classify_blocks(blocks, len, fs, n, est).iter().map(|c| format!("{c:?}")).collect()
+    }
+
     /// How many blocks end as edge, interior, gap and other.
     pub fn class_counts(blocks: usize, len: usize, fs: f64, n: usize, est: &StrongEstimate) -> [usize; 4] {
         let class = super::classify_blocks(blocks, len, fs, n, est);
         let all = [BlockClass::Edge, BlockClass::Interior, BlockClass::Gap, BlockClass::Other];
         all.map(|one| class.iter().filter(|&&c| c == one).count())
+    }
+
+    /// The run of document 01, part 7, over the Rust's functions alone: whether it took.
+    pub fn run(buf: &mut [Complex32], fs: f64, hint_hz: f64) -> bool {
+        let est = estimate_strong(buf, fs, hint_hz);
+        let residual = residual_check(buf, fs, &est);
+        let evidence = second_carrier_evidence(buf, fs, &est);
+        let two = matches!(classify(&evidence), Hypothesis::TwoSignalCw { .. });
+        let few = est.fits.len() < MIN_ELEMENTS;
+        let taken = two && !few && est.carrier_step_hz.abs() <= MAX_CARRIER_STEP_HZ && residual.clean();
+        if taken {
+            subtract(buf, fs, &est);
+        }
+        taken
     }
 }

@@ -1,6 +1,6 @@
 //! Slices lent to the library, each between two guard zones, with what they held before the call.
 
-use oracle::random::Random;
+use crate::random::Random;
 
 /// A float of either width, seen as its bits.
 pub trait Bits: Copy {
@@ -70,8 +70,24 @@ impl<T: Bits> Lent<T> {
         Lent::holding(name, &content, r)
     }
 
+    #[allow(clippy::len_without_is_empty)]
     pub fn len(&self) -> usize {
         self.len
+    }
+
+    /// Makes it hold again what it held before.
+    pub fn again(&mut self) {
+        self.cells.copy_from_slice(&self.before);
+    }
+
+    /// Where in the cells it starts.
+    pub fn start(&self) -> usize {
+        self.start
+    }
+
+    /// All cells: the first guard zone, the slice, the second guard zone.
+    pub fn cells(&mut self) -> &mut [T] {
+        &mut self.cells
     }
 
     pub fn pointer(&mut self) -> *mut T {

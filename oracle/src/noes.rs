@@ -1,9 +1,9 @@
 //! Scenes that a question answers with no, one or several at once.
 
+use crate::questions::{steps, LARGEST, MOST_FLOATS, POSITIONS};
+use crate::random::Random;
+use crate::records::{ELEMENT, FIT};
 use crate::scene::Scene;
-use oracle::questions::{steps, LARGEST, MOST_FLOATS, POSITIONS};
-use oracle::random::Random;
-use oracle::records::{ELEMENT, FIT};
 
 /// Makes up to three of the seven questions answer no, wherever that can be done.
 pub fn refused(scene: &Scene, r: &mut Random) -> Scene {
@@ -73,7 +73,7 @@ fn too_few_places(s: &mut Scene, r: &mut Random) {
     }
     // A count beyond any list has no list that is one number short of it.
     let numbers = s.given.element_count.checked_mul(FIT).unwrap_or(FIT).min(1 << 20);
-    s.given_fits_len = numbers.saturating_sub(1);
+    s.places_len = numbers.saturating_sub(1);
 }
 
 fn wrong_given(s: &mut Scene, r: &mut Random) {
@@ -83,7 +83,7 @@ fn wrong_given(s: &mut Scene, r: &mut Random) {
         0 => {
             // Beyond the list, with places enough for the fits; or beyond any list.
             g.element_count = g.elements.len() / ELEMENT + 1 + r.whole(0, 3);
-            s.given_fits_len = g.element_count * FIT;
+            s.places_len = g.element_count * FIT;
             if r.chance(0.2) {
                 g.element_count = r.pick(&[usize::MAX, usize::MAX / ELEMENT + 1, usize::MAX / FIT + 1]);
             }

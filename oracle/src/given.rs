@@ -1,35 +1,29 @@
 //! Estimates to be handed in: the recording's own, one pulled about, or one of any numbers that are admitted.
 
-use crate::scene::{Estimate, Recording};
-use oracle::questions::{LARGEST, POSITIONS};
-use oracle::random::Random;
-use oracle::records::{self, ELEMENT, FIT};
-use oracle::run;
-
-/// The estimate that the oracle makes of the recording.
-pub fn own(rec: &Recording) -> Estimate {
-    let (_, est) = run::estimate(&records::samples(&rec.iq), rec.fs, rec.hint_hz);
-    Estimate {
-        carrier_hz: est.carrier_hz,
-        carrier_step_hz: est.carrier_step_hz,
-        element_count: est.elements.len(),
-        elements: records::flat_elements(&est.elements),
-        fit_count: est.fits.len(),
-        fits: records::flat_fits(&est.fits),
-    }
-}
+use crate::questions::{LARGEST, POSITIONS};
+use crate::random::Random;
+use crate::records::{ELEMENT, FIT};
+use crate::scene::{Given, Recording};
 
 /// The recording's own estimate or one made from it, in lists that may be longer than the count.
-pub fn estimate(rec: &Recording, r: &mut Random) -> Estimate {
-    let mut est = own(rec);
-    match r.whole(0, 4) {
-        0 => pulled(&mut est, rec, r),
-        1 => made_up(&mut est, rec, r),
+pub fn estimate(rec: &Recording, r: &mut Random) -> Given {
+    let mut est = Given::own(rec);
+    match r.whole(0, 8) {
+        0 | 1 => pulled(&mut est, rec, r),
+        2 => made_up(&mut est, rec, r),
+        3 => counted_down(&mut est, r),
         _ => {}
     }
     pad(&mut est.elements, r);
     pad(&mut est.fits, r);
     est
+}
+
+/// Counts below what the lists hold, often none at all.
+fn counted_down(est: &mut Given, r: &mut Random) {
+    let fewer = |count: usize, r: &mut Random| if r.chance(0.5) { 0 } else { r.whole(0, count + 1) };
+    est.element_count = fewer(est.element_count, r);
+    est.fit_count = fewer(est.fit_count, r);
 }
 
 /// Places past the count, and a rest that is no place. They are not read, so they may hold anything.
@@ -42,7 +36,7 @@ fn pad(list: &mut Vec<f64>, r: &mut Random) {
 /// Few records, so that huge spans stay cheap.
 const MOST: usize = 12;
 
-fn pulled(est: &mut Estimate, rec: &Recording, r: &mut Random) {
+fn pulled(est: &mut Given, rec: &Recording, r: &mut Random) {
     est.element_count = est.element_count.min(MOST);
     est.elements.truncate(est.element_count * ELEMENT);
     est.fit_count = est.fit_count.min(MOST);
@@ -60,7 +54,7 @@ fn pulled(est: &mut Estimate, rec: &Recording, r: &mut Random) {
     }
 }
 
-fn made_up(est: &mut Estimate, rec: &Recording, r: &mut Random) {
+fn made_up(est: &mut Given, rec: &Recording, r: &mut Random) {
     let n = rec.iq.len() as f64 / 2.0;
     est.element_count = r.whole(0, MOST);
     est.fit_count = r.whole(0, MOST);

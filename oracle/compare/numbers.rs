@@ -1,9 +1,11 @@
-//! The arithmetic: sin, cos, arg, norm, log10, narrow on single numbers.
+//! The functions of numbers: sin, cos, arg, norm, log10, narrow, and the count of blocks.
 
 use crate::ask::{Asker, Compared, Difference};
-use crate::lent::Bits;
 use crate::library;
+use oracle::lent::Bits;
+use oracle::questions;
 use oracle::random::Random;
+use oracle::recordings::rate;
 use oracle::stand_ins;
 use std::f64::consts::{PI, TAU};
 
@@ -33,6 +35,21 @@ const SPECIAL: [f64; 22] = [
     -5e-324,
 ];
 
+/// Lengths of recordings that the count of blocks is asked about.
+const LENGTHS: [usize; 10] = [0, 1, 2, 3, 15, 16, 2_097_152, 2_097_153, usize::MAX - 1, usize::MAX];
+
+/// A function by its short name, of the library and of the oracle, on these numbers.
+macro_rules! same {
+    ($asker:ident, $oracle:ident::$function:ident($($x:expr),*)) => {
+        $asker.number(
+            concat!("cancel_", stringify!($function)),
+            || format!("{:?}", ($($x),*)),
+            || library::$function($($x),*),
+            || $oracle::$function($($x),*),
+        )
+    };
+}
+
 impl Asker {
     /// All special numbers and their neighbours.
     pub fn special_numbers(&mut self) -> Compared {
@@ -43,6 +60,9 @@ impl Asker {
                     self.of_two(x, y)?;
                     self.of_two(y, x)?;
                 }
+                for len in LENGTHS {
+                    same!(self, questions::blocks(len, x))?;
+                }
             }
         }
         Ok(())
@@ -52,74 +72,80 @@ impl Asker {
     pub fn numbers(&mut self, times: usize) -> Compared {
         for _ in 0..times {
             let angle = angle(&mut self.random);
-            self.sin(angle)?;
-            self.cos(angle)?;
+            self.of_angle(angle)?;
             let (re, im) = pair(&mut self.random);
             self.of_two(re, im)?;
             let y = positive(&mut self.random);
-            self.log10(y)?;
+            same!(self, stand_ins::log10(y))?;
             let x = narrowed(&mut self.random);
-            self.narrow(x)?;
+            same!(self, stand_ins::narrow(x))?;
             let any = f64::from_bits(self.random.bits());
             self.of_one(any)?;
+            let (len, fs) = (self.random.whole(0, 3_000_000), rate(&mut self.random));
+            same!(self, questions::blocks(len, fs))?;
         }
         Ok(())
     }
 
     fn of_one(&mut self, x: f64) -> Compared {
-        self.sin(x)?;
-        self.cos(x)?;
-        self.log10(x)?;
-        self.narrow(x)
+        self.of_angle(x)?;
+        same!(self, stand_ins::log10(x))?;
+        same!(self, stand_ins::narrow(x))
     }
 
     fn of_two(&mut self, re: f64, im: f64) -> Compared {
-        let handed = || format!("({re:?}, {im:?})");
-        self.leaf("cancel_arg", handed, || unsafe { library::cancel_arg(re, im) }, || stand_ins::arg(re, im))?;
-        self.leaf("cancel_norm", handed, || unsafe { library::cancel_norm(re, im) }, || stand_ins::norm(re, im))
+        same!(self, stand_ins::arg(re, im))?;
+        same!(self, stand_ins::norm(re, im))
     }
 
-    fn sin(&mut self, x: f64) -> Compared {
-        self.leaf("cancel_sin", || format!("{x:?}"), || unsafe { library::cancel_sin(x) }, || stand_ins::sin(x))
-    }
-
-    fn cos(&mut self, x: f64) -> Compared {
-        self.leaf("cancel_cos", || format!("{x:?}"), || unsafe { library::cancel_cos(x) }, || stand_ins::cos(x))?;
+    fn of_angle(&mut self, x: f64) -> Compared {
+        same!(self, stand_ins::sin(x))?;
+        same!(self, stand_ins::cos(x))?;
         let handed = || format!("{x:?}");
-        self.leaf("cancel_cos_sin", handed, || many(x, 0), || stand_ins::cos(x))?;
-        self.leaf("cancel_cos_sin", handed, || many(x, 1), || stand_ins::sin(x))
+        self.number("cancel_cos_sin", handed, || many(x, 0), || stand_ins::cos(x))?;
+        self.number("cancel_cos_sin", handed, || many(x, 1), || stand_ins::sin(x))
     }
 
-    fn log10(&mut self, x: f64) -> Compared {
-        self.leaf("cancel_log10", || format!("{x:?}"), || unsafe { library::cancel_log10(x) }, || stand_ins::log10(x))
-    }
-
-    fn narrow(&mut self, x: f64) -> Compared {
-        self.leaf(
-            "cancel_narrow",
-            || format!("{x:?}"),
-            || unsafe { library::cancel_narrow(x) },
-            || stand_ins::narrow(x),
-        )
-    }
-
-    fn leaf<T: Bits>(
+    fn number<T: Number>(
         &mut self,
-        call: &'static str,
+        function: &'static str,
         handed: impl Fn() -> String,
         library: impl Fn() -> T,
         oracle: impl Fn() -> T,
     ) -> Compared {
-        if !library::present(call) {
+        if !library::present(function) {
             return Ok(());
         }
         let (a, b) = (library(), oracle());
-        if !a.same(b) {
-            let what = format!("of {}: library {:?}, oracle {:?}", handed(), a.wide(), b.wide());
-            return Err(Difference { call, what });
+        if !a.same_number(b) {
+            let what = format!("of {}: library {a:?}, oracle {b:?}", handed());
+            return Err(Difference { call: function, what });
         }
-        self.tally.equal(call, false);
+        self.tally.equal_number(function);
         Ok(())
+    }
+}
+
+/// What a function answers: a float, where all NaNs are one and both zeros are one, or a count.
+trait Number: Copy + std::fmt::Debug {
+    fn same_number(self, other: Self) -> bool;
+}
+
+impl Number for f64 {
+    fn same_number(self, other: f64) -> bool {
+        self.same(other)
+    }
+}
+
+impl Number for f32 {
+    fn same_number(self, other: f32) -> bool {
+        self.same(other)
+    }
+}
+
+impl Number for usize {
+    fn same_number(self, other: usize) -> bool {
+        self == other
     }
 }
 
@@ -185,11 +211,12 @@ fn narrowed(r: &mut Random) -> f64 {
     }
 }
 
-/// The cosine (part 0) or the sine (part 1) by the call for many angles, the second of three; the room is for two, and one number more.
+/// The cosine (part 0) or the sine (part 1) by the call for many angles, the second of three; the room is for two, and
+/// one number more.
 fn many(x: f64, part: usize) -> f64 {
     let angles = [0.5, x, 1.5];
     let mut out = [9.0; 6];
-    let done = unsafe { library::cancel_cos_sin(angles.as_ptr(), 3, out.as_mut_ptr(), 5) };
+    let done = library::cos_sin(angles.as_ptr(), 3, out.as_mut_ptr(), 5);
     assert!(done == 2 && out[4] == 9.0 && out[5] == 9.0, "cancel_cos_sin wrote past its room");
     out[2 + part]
 }

@@ -1,0 +1,204 @@
+//! The limits, compared in every run: small recordings around every window, every change of step, each question's edge,
+//! the largest counts, evidence at every limit of a hypothesis; and recordings of 2^20 samples. Each scene is handed to
+//! `ask` in turn, and the first error ends it.
+
+use crate::by_stand_ins::way_in::edge_window;
+use crate::noes;
+use crate::random::Random;
+use crate::recordings::{change_of_step, on_off};
+use crate::scene::{Evidence, Given, Recording, Scene};
+use crate::signals::{real, senders, Sender};
+
+/// What is done with a scene.
+pub type Ask<'a, E> = &'a mut dyn FnMut(&Scene) -> Result<(), E>;
+
+/// Some limits, by what they are.
+pub type Limit<E> = (&'static str, fn(&mut Random, Ask<E>) -> Result<(), E>);
+
+/// The longest recordings.
+pub const LONGEST: usize = 1 << 20;
+
+/// All that are cheap.
+pub fn limits<E>() -> [Limit<E>; 9] {
+    [
+        ("n around every window", windows),
+        ("rates around every change of step", changes_of_step),
+        ("edge table", edge_table),
+        ("ranks halfway", ranks),
+        ("questions, each and in pairs", questions),
+        ("largest counts", largest_counts),
+        ("blocks at the rim", rims),
+        ("lists with nothing in them", no_lists),
+        ("hypotheses at their limits", |r, ask| hypotheses(4_000, r, ask)),
+    ]
+}
+
+/// n from none to a little over a window.
+fn windows<E>(r: &mut Random, ask: Ask<E>) -> Result<(), E> {
+    for k in 1..=64 {
+        let fs = (3_000 * k) as f64;
+        let (window, step) = edge_window(fs);
+        for n in [0, 1, step, window - 1, window, window + 1, window + step - 1, window + step, 3 * window + 1] {
+            let iq = (0..2 * n).map(|_| r.between(-1.0, 1.0) as f32).collect();
+            let rec = Recording { what: format!("{n} samples"), fs, iq, hint_hz: 0.0 };
+            ask(&Scene::own(rec, r))?;
+        }
+    }
+    Ok(())
+}
+
+/// Around each change of step, and at both ends of the rates.
+fn changes_of_step<E>(r: &mut Random, ask: Ask<E>) -> Result<(), E> {
+    let changes = (1..64).map(change_of_step).flat_map(|fs| [fs.next_down(), fs, fs.next_up()]);
+    for fs in changes.chain([2_000.0, 2_000f64.next_up(), 192_000f64.next_down(), 192_000.0]) {
+        let n = (0.05 * fs) as usize;
+        let on = |k: usize| (n / 4..3 * n / 4).contains(&k);
+        let iq = real(n, |k| if on(k) { 1.0 } else { 0.0 });
+        let hint_hz = r.pick(&[0.0, fs / 2.0, -fs / 2.0]);
+        ask(&Scene::own(Recording { what: "one key-down".into(), fs, iq, hint_hz }, r))?;
+    }
+    Ok(())
+}
+
+/// Document 01's edge table: key-downs just long enough to be listed or fitted, and just too short.
+fn edge_table<E>(r: &mut Random, ask: Ask<E>) -> Result<(), E> {
+    for (n, lo, hi) in
+        [(300, 100, 200), (107, 40, 55), (107, 40, 54), (300, 100, 161), (300, 100, 160), (3_000, 1_500, 1_600)]
+    {
+        let iq = real(n, |k| if (lo..hi).contains(&k) { 1.0 } else { 0.0 });
+        ask(&Scene::own(Recording { what: format!("ones from {lo} to {hi}"), fs: 3_000.0, iq, hint_hz: 0.0 }, r))?;
+    }
+    Ok(())
+}
+
+/// Rows whose rank (count − 1) × 0.98 lies halfway between two whole numbers.
+fn ranks<E>(r: &mut Random, ask: Ask<E>) -> Result<(), E> {
+    for count in [26, 76, 126, 176, 226, 276] {
+        for k in 1..=4 {
+            let (fs, n) = ((3_000 * k) as f64, k * (count + 7));
+            let on = (n / 5, n * 3 / 4);
+            let level = |r: &mut Random, k| if (on.0..on.1).contains(&k) { r.between(0.7, 1.3) as f32 } else { 0.0 };
+            let iq = (0..n).flat_map(|k| [level(r, k), 0.0]).collect();
+            ask(&Scene::own(Recording { what: format!("a row of {count}"), fs, iq, hint_hz: 0.0 }, r))?;
+        }
+    }
+    Ok(())
+}
+
+/// Each question with no alone, and each two of them at once.
+fn questions<E>(r: &mut Random, ask: Ask<E>) -> Result<(), E> {
+    let fs = 3_000.0;
+    let iq = senders(3_000, fs, &[Sender::keyed(40.0, 1.0, 0.06)], 0.01, &mut Random::new(7));
+    let rec = Recording { what: "questions".into(), fs, iq, hint_hz: 40.0 };
+    let given = Given::own(&rec);
+    assert!(given.element_count > 0 && given.fit_count > 0, "an estimate to be refused");
+    for first in (1..=7).rev() {
+        for second in (1..=first).rev() {
+            for _ in 0..6 {
+                let mut scene = Scene::new(rec.clone(), given.clone(), r);
+                noes::answer_no(&mut scene, first, r);
+                if second != first {
+                    noes::answer_no(&mut scene, second, r);
+                }
+                scene.recording.what = format!("questions, no to {second} and {first}");
+                ask(&scene)?;
+            }
+        }
+    }
+    Ok(())
+}
+
+/// Rows with the most key-downs, the most listed and the most fitted ones, in slices with no number to spare.
+fn largest_counts<E>(_: &mut Random, ask: Ask<E>) -> Result<(), E> {
+    for fs in [2_000.0, 3_000.0, 4_400.0, 8_000.0] {
+        let (_, step) = edge_window(fs);
+        let rise = (5e-3 * fs / step as f64).ceil() as usize;
+        for on in [1, rise - 1, rise, 4 * rise - 1, 4 * rise, 4 * rise + 1] {
+            let rec = on_off(4_000 * step, fs, on, 1);
+            let given = Given::own(&rec);
+            ask(&Scene::least(rec, given))?;
+        }
+    }
+    Ok(())
+}
+
+/// Recordings about as long as the two rims together, with a key-down in the middle.
+fn rims<E>(r: &mut Random, ask: Ask<E>) -> Result<(), E> {
+    for fs in [2_000.0, 3_000.0, 4_499.0, 12_345.6] {
+        let (window, _) = edge_window(fs);
+        let both = (0.4 * fs) as usize;
+        for n in [both - window, both - 1, both, both + 1, both + window, both + 40 * window] {
+            let mut iq = senders(n, fs, &[Sender::steady(70.0, 0.2)], 0.01, r);
+            let lo = n / 2 - (0.03 * fs) as usize;
+            iq[2 * lo..2 * (n - lo)].iter_mut().step_by(2).for_each(|x| *x += 1.0);
+            ask(&Scene::own(Recording { what: format!("{n} samples about the rims"), fs, iq, hint_hz: 0.0 }, r))?;
+        }
+    }
+    Ok(())
+}
+
+/// A recording of two senders with estimates that hold no element, no fit, or neither; and silence.
+fn no_lists<E>(r: &mut Random, ask: Ask<E>) -> Result<(), E> {
+    let fs = 3_000.0;
+    let both = [Sender::keyed(100.0, 1.0, 0.05), Sender::keyed(140.0, 0.3, 0.07)];
+    for iq in [senders(9_000, fs, &both, 0.01, r), real(9_000, |_| 0.0), real(9_000, |_| 1.0)] {
+        let rec = Recording { what: "empty lists".into(), fs, iq, hint_hz: 100.0 };
+        let own = Given::own(&rec);
+        let no_fits = Given { fits: Vec::new(), fit_count: 0, ..own.clone() };
+        let no_elements = Given { elements: Vec::new(), element_count: 0, ..own.clone() };
+        for given in [own, no_fits, no_elements, Given::default()] {
+            ask(&Scene::least(rec.clone(), given))?;
+        }
+    }
+    Ok(())
+}
+
+/// Evidence about the limits of each hypothesis.
+pub fn hypotheses<E>(times: usize, r: &mut Random, ask: Ask<E>) -> Result<(), E> {
+    let about = |r: &mut Random, limits: &[f64]| {
+        let x = r.pick(limits);
+        r.about(x)
+    };
+    let mut scene = Scene { only: &["cancel_classify"], ..Scene::default() };
+    for _ in 0..times {
+        scene.evidence = Evidence {
+            gap_blocks: r.pick(&[0, 1, 100, u64::MAX]),
+            hot_fraction: about(r, &[0.15, 0.75, 0.3, 0.5, f64::NAN, f64::INFINITY, f64::NEG_INFINITY, 0.0, 1.0]),
+            present: r.pick(&[0, 1, 1, 2, u64::MAX]),
+            offset_hz: about(r, &[10.0, -10.0, 150.0, -150.0, 50.0, f64::NAN, f64::INFINITY, 0.0, -80.0]),
+            coherence: about(r, &[0.8, 0.9, 1.0, f64::NAN, f64::INFINITY, 0.0]),
+        };
+        scene.recording.what = format!("{:?}", scene.evidence);
+        ask(&scene)?;
+    }
+    Ok(())
+}
+
+/// 2^20 samples: two senders, rows that are hard on a selection, the largest counts of all. One sample more is refused.
+pub fn longest<E>(r: &mut Random, ask: Ask<E>) -> Result<(), E> {
+    for (what, fs) in [("equal row", 2_000.0), ("alternating row", 3_000.0), ("rising row", 4_400.0)] {
+        let iq = real(LONGEST, |k| match what {
+            "equal row" => 1.0,
+            "alternating row" => (k % 2) as f32,
+            _ => k as f32,
+        });
+        let rec = Recording { what: what.into(), fs, iq, hint_hz: 0.0 };
+        ask(&Scene { only: &["cancel_find_elements"], ..Scene::new(rec, Given::default(), r) })?;
+    }
+    for (on, only) in [(1, &["cancel_find_elements"][..]), (10, &["cancel_estimate_strong"]), (40, &[])] {
+        let rec = on_off(LONGEST, 2_000.0, on, 1);
+        let given = if only.is_empty() { Given::own(&rec) } else { Given::default() };
+        ask(&Scene { only, ..Scene::least(rec, given) })?;
+    }
+    for fs in [3_000.0, 192_000.0] {
+        let both = [Sender::keyed(300.0, 1.0, 0.06), Sender::keyed(350.0, 0.3, 0.07)];
+        let iq = senders(LONGEST, fs, &both, 0.001, r);
+        ask(&Scene::own(Recording { what: "2 senders of 2^20 samples".into(), fs, iq, hint_hz: 300.0 }, r))?;
+    }
+    for more in [1, 2] {
+        let iq = vec![0.0; 2 * LONGEST + more];
+        let rec = Recording { what: "too long".into(), fs: 96_000.0, iq, hint_hz: 0.0 };
+        ask(&Scene::new(rec, Given::default(), r))?;
+    }
+    Ok(())
+}
