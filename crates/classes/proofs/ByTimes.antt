@@ -8,7 +8,7 @@ use Rattle.lists.specs.Firsts.{firsts}
 use Rattle.elements.specs.declared.element.KeyedElement.{KeyedElement}
 use Rattle.elements.specs.Found.{elementAt}
 use Rattle.fits.specs.declared.fit.ElementFit.{ElementFit}
-use Rattle.fits.specs.Lists.{fitAt, elementsIn, fitsIn}
+use Rattle.fits.specs.List.{fitAt, elementsIn, fitsIn}
 use Rattle.classes.specs.Classify.{Times, timesOf, timesOfFit, classOf}
 
 -- Two estimates with the same times give every block the same class, whatever their positions, gains, slopes and
