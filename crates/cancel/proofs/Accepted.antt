@@ -2,7 +2,7 @@
 -- a file of its own. Assumes nothing.
 use Prim.Native.Nat.{ℕ, zero, suc, _*_, _/_, _%_, _≤_}
 use native.Mathlib.Omega.{arith}
-use mathlib.Core.Path.{_≡_}
+use mathlib.Core.Path.{_≡_, refl, ap}
 use mathlib.Core.Bool.{true}
 use mathlib.Core.List.{List}
 use lib.Dec.{leb, eqb}
@@ -11,7 +11,9 @@ use lib.Ieee.{Float}
 use borrow.Author.Tests.{leb-true}
 use Rattle.lists.proofs.Every.{and-right}
 use Rattle.row.specs.Samples.{Iq, allFinite}
-use Rattle.cancel.specs.Answers.{Outcome, byNumber}
+use Rattle.elements.specs.Element.{ELEMENT}
+use Rattle.fits.specs.List.{FIT}
+use Rattle.cancel.specs.Answers.{accepted, refused, byNumber}
 use Rattle.cancel.specs.Questions.{countOk, placesOk, workOk}
 
 -- 2 and 3
@@ -20,22 +22,39 @@ unfolding countOk
 recording-is iq h f = record { short = leb-true (length iq) 2097152 (and-right (eqb (length iq % 2) 0) (leb (length iq) 2097152) h); finite = f }
 
 -- 5, of a list of elements and of a list of fits
-pub element-places : (need len : ℕ) → placesOk need (len / 4) ≡ true → 4 * need ≤ len
-element-places need len h = let room = leb-true need (len / 4) h in omega arith
+pub element-places : (need len : ℕ) → placesOk need (len / ELEMENT) ≡ true → ELEMENT * need ≤ len
+element-places need len h = let room = leb-true need (len / ELEMENT) h in omega arith
 
-pub fit-places : (need len : ℕ) → placesOk need (len / 8) ≡ true → 8 * need ≤ len
-fit-places need len h = let room = leb-true need (len / 8) h in omega arith
+pub fit-places : (need len : ℕ) → placesOk need (len / FIT) ≡ true → FIT * need ≤ len
+fit-places need len h = let room = leb-true need (len / FIT) h in omega arith
 
 -- 6
 pub work-room : (b len : ℕ) → workOk b len ≡ true → 4 * b ≤ len
 unfolding workOk
 work-room b len h = leb-true (4 * b) len h
 
--- the two ways out
-pub refused : {A : Type 0} (first n : ℕ) (done stopped o : Outcome A) → n ≡ first → (n ≡ 0 → ⊥) → o ≡ stopped → o ≡ byNumber first done stopped
-refused zero n done stopped o e h q = absurd (h e)
-refused (suc first) n done stopped o e h q = q
+-- ---- the two ways out of a call
 
-pub accepted : {A : Type 0} (first n : ℕ) (done stopped o : Outcome A) → n ≡ first → n ≡ 0 → o ≡ done → o ≡ byNumber first done stopped
-accepted zero n done stopped o e h q = q
-accepted (suc first) n done stopped o e h q = let never : ⊥ = omega arith in absurd never
+pub refuses : {A : Type 0} (first : ℕ) (result : A) (lent : List (List Float)) (n : ℕ) → n ≡ first → (n ≡ 0 → ⊥)
+    → refused n lent ≡ byNumber first result lent
+unfolding byNumber
+refuses zero result lent n e h = absurd (h e)
+refuses (suc first) result lent n e h = ap (λ k. refused k lent) e
+
+pub accepts : {A : Type 0} (first : ℕ) (result : A) (lent : List (List Float)) (n : ℕ) (r : A) → n ≡ first → n ≡ 0 → r ≡ result
+    → accepted r ≡ byNumber first result lent
+unfolding byNumber
+accepts first result lent n r e h q = let none : first ≡ 0 = omega arith in rw (none, q)
+
+-- and what they show: a refusal's number is not 0, and of an accepted call every answer was yes
+pub refused-by : {A : Type 0} (first : ℕ) (result : A) (lent : List (List Float)) (n : ℕ) (l : List (List Float))
+    → refused n l ≡ byNumber first result lent → n ≡ 0 → ⊥
+unfolding byNumber
+refused-by zero result lent n l e h = let never : _≡_ {A = ℕ} 0 1 = cc in omega arith
+refused-by (suc first) result lent n l e h = let same : n ≡ suc first = cc in omega arith
+
+pub accepted-by : {A : Type 0} (first : ℕ) (result : A) (lent : List (List Float)) (r : A) → accepted r ≡ byNumber first result lent
+    → (first ≡ 0) × (r ≡ result)
+unfolding byNumber
+accepted-by zero result lent r e = (refl, cc)
+accepted-by (suc first) result lent r e = let never : _≡_ {A = ℕ} 0 1 = cc in absurd (omega arith)

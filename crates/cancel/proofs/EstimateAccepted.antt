@@ -1,21 +1,33 @@
--- What `estimate_strong` goes on with where every answer is yes. Assumes nothing.
+-- `estimate_strong`: what it goes on with where every answer is yes, and what its promise says. Assumes nothing.
 use Prim.Native.Nat.{ℕ, _*_, _/_, _≤_}
-use mathlib.Core.Path.{_≡_, refl}
+use native.Mathlib.Omega.{arith}
+use mathlib.Core.Path.{_≡_, refl, ap}
 use mathlib.Core.List.{List}
+use lib.ListN.{length}
 use lib.Ieee.{Float}
 use Rattle.row.specs.Window.{Rate, stepBlocks}
 use Rattle.row.specs.Samples.{Iq}
 use Rattle.row.proofs.Steps.{rate-is}
+use Rattle.elements.specs.declared.element.KeyedElement.{KeyedElement}
+use Rattle.elements.specs.Element.{ELEMENT, Handed, handed}
+use Rattle.elements.specs.Find.{elementsFound}
+use Rattle.elements.proofs.Recording.{listed-counted, all-counted, enough-places}
+use Rattle.fits.specs.declared.fit.ElementFit.{ElementFit}
+use Rattle.fits.specs.declared.estimate.Estimate.{Estimate}
+use Rattle.fits.specs.List.{FIT}
+use Rattle.fits.specs.Estimate.{fitsFound, refined, strongEstimate, strongElements, strongFits}
+use Rattle.fits.proofs.Fitted.{fitted-few}
+use Rattle.cancel.specs.Answers.{accepted, refused}
 use Rattle.cancel.specs.Questions.{firstNo}
-use Rattle.cancel.specs.Estimate.{estimateQuestions}
+use Rattle.cancel.specs.Estimate.{estimateQuestions, EstimateResult, estimateRule}
 use Rattle.cancel.proofs.FirstNo.{yes-at}
-use Rattle.cancel.proofs.Accepted.{recording-is, element-places, fit-places, work-room}
+use Rattle.cancel.proofs.Accepted.{recording-is, element-places, fit-places, work-room, refused-by, accepted-by}
 
 pub record EstimateAccepted (iq : List Float) (fs : Float) (elements fits work : ℕ) : Type 0 where
   pub iq-ok : Iq iq
   pub rate-ok : Rate fs
-  pub places : 4 * (stepBlocks iq fs / 2) ≤ elements
-  pub fit-room : 8 * (stepBlocks iq fs / 2) ≤ fits
+  pub places : ELEMENT * (stepBlocks iq fs / 2) ≤ elements
+  pub fit-room : FIT * (stepBlocks iq fs / 2) ≤ fits
   pub room : 4 * stepBlocks iq fs ≤ work
 
 pub estimate-accepted : (iq : List Float) (fs hint : Float) (elements fits work : ℕ) → firstNo (estimateQuestions iq fs hint elements fits work) ≡ 0
@@ -29,3 +41,53 @@ estimate-accepted iq fs hint elements fits work all =
       fit-room = fit-places (stepBlocks iq fs / 2) fits (yes 5);
       room = work-room (stepBlocks iq fs) work (yes 6);
     }
+
+-- a result is the same as another if its parts are
+pub estimate-result : (d e : Estimate) (h i : Handed KeyedElement) (j k : Handed ElementFit) (v w : ℕ) → d ≡ e → h ≡ i → j ≡ k → v ≡ w
+    → _≡_ {A = EstimateResult} (record { estimate = d; elements = h; fits = j; work = v }) (record { estimate = e; elements = i; fits = k; work = w })
+estimate-result d e h i j k v w a b c g = rw (a, b, c, g)
+
+-- ---- what it counts
+
+module _ (iq : List Float) (fs hint : Float) where
+  strong-fitted : strongEstimate iq fs hint .fitted ≤ strongEstimate iq fs hint .found .listed
+  unfolding strongEstimate strongFits fitsFound
+  strong-fitted =
+      let carrier = refined iq fs hint in
+      let few = fitted-few iq fs carrier (elementsFound iq fs carrier) in
+      let n = listed-counted iq fs carrier in
+      omega arith
+
+  strong-listed : strongEstimate iq fs hint .found .listed ≤ stepBlocks iq fs / 2
+  unfolding strongEstimate
+  strong-listed =
+      let carrier = refined iq fs hint in
+      let all = all-counted iq fs carrier in
+      let most = enough-places iq fs carrier in
+      omega arith
+
+-- ---- what its promise says of a refusal, and of an accepted call
+
+module _ (iq : List Float) (fs hint : Float) (elements fits work : List Float) where
+  pub estimate-refused : (n : ℕ) (lent : List (List Float)) → refused n lent ≡ estimateRule iq fs hint elements fits work → n ≡ 0 → ⊥
+  unfolding estimateRule
+  estimate-refused n lent e = refused-by _ _ _ n lent e
+
+  pub estimate-done : (r : EstimateResult) → accepted r ≡ estimateRule iq fs hint elements fits work
+      → (firstNo (estimateQuestions iq fs hint (length elements) (length fits) (length work)) ≡ 0) × (r .estimate ≡ strongEstimate iq fs hint)
+      × (r .elements ≡ handed ELEMENT (strongElements iq fs hint) elements) × (r .fits ≡ handed FIT (strongFits iq fs hint) fits)
+  unfolding estimateRule
+  estimate-done r e =
+      let told = accepted-by _ _ _ r e in
+      let part = told .1 in
+      (told .0, ap (λ (r : EstimateResult). r .estimate) part, ap (λ (r : EstimateResult). r .elements) part, ap (λ (r : EstimateResult). r .fits) part)
+
+  -- the fits are no more than the elements listed, and these have places in the list
+  pub estimate-counts : (r : EstimateResult) → accepted r ≡ estimateRule iq fs hint elements fits work
+      → (r .estimate .fitted ≤ r .estimate .found .listed) × (ELEMENT * r .estimate .found .listed ≤ length elements)
+  estimate-counts r e =
+      let told = estimate-done r e in
+      let places = estimate-accepted iq fs hint _ _ _ (told .0) .places in
+      let few = strong-fitted iq fs hint in
+      let most = strong-listed iq fs hint in
+      rw (told .1) (few, omega arith)

@@ -1,25 +1,29 @@
--- What `fit_elements` goes on with where every answer is yes. Assumes nothing.
+-- `fit_elements`: what it goes on with where every answer is yes, and what its promise says. Assumes nothing.
 use Prim.Native.Nat.{ℕ, _*_, _≤_}
-use mathlib.Core.Path.{_≡_, refl}
+use mathlib.Core.Path.{_≡_, refl, ap}
 use mathlib.Core.List.{List}
 use lib.ListN.{length}
 use lib.Ieee.{Float}
 use Rattle.row.specs.Window.{Rate, stepBlocks}
 use Rattle.row.specs.Samples.{Iq}
 use Rattle.row.proofs.Steps.{rate-is}
-use Rattle.fits.specs.Lists.{AllTimed}
+use Rattle.elements.specs.Element.{ELEMENT, Handed, handed}
+use Rattle.fits.specs.declared.fit.ElementFit.{ElementFit}
+use Rattle.fits.specs.List.{FIT}
+use Rattle.fits.specs.Inner.{AllTimed}
+use Rattle.cancel.specs.Answers.{accepted, refused}
 use Rattle.cancel.specs.Questions.{firstNo}
-use Rattle.cancel.specs.Fit.{fitQuestions}
+use Rattle.cancel.specs.Fit.{fitQuestions, FitResult, fitsGiven, fitRule}
 use Rattle.cancel.proofs.FirstNo.{yes-at}
 use Rattle.cancel.proofs.Given.{all-timed, elements-fit}
-use Rattle.cancel.proofs.Accepted.{recording-is, fit-places, work-room}
+use Rattle.cancel.proofs.Accepted.{recording-is, fit-places, work-room, refused-by, accepted-by}
 
 pub record FitAccepted (iq : List Float) (fs : Float) (elements : List Float) (count fits work : ℕ) : Type 0 where
   pub iq-ok : Iq iq
   pub rate-ok : Rate fs
   pub timed : AllTimed elements count
-  pub given : 4 * count ≤ length elements
-  pub fit-room : 8 * count ≤ fits
+  pub given : ELEMENT * count ≤ length elements
+  pub fit-room : FIT * count ≤ fits
   pub room : 4 * stepBlocks iq fs ≤ work
 
 pub fit-accepted : (iq : List Float) (fs hz : Float) (elements : List Float) (count fits work : ℕ) → firstNo (fitQuestions iq fs hz elements count fits work) ≡ 0
@@ -34,3 +38,23 @@ fit-accepted iq fs hz elements count fits work all =
       fit-room = fit-places count fits (yes 4);
       room = work-room (stepBlocks iq fs) work (yes 5);
     }
+
+-- a result is the same as another if its parts are
+pub fit-result : (m n : ℕ) (h i : Handed ElementFit) (v w : ℕ) → m ≡ n → h ≡ i → v ≡ w
+    → _≡_ {A = FitResult} (record { fitted = m; fits = h; work = v }) (record { fitted = n; fits = i; work = w })
+fit-result m n h i v w a b c = rw (a, b, c)
+
+-- ---- what its promise says of a refusal, and of an accepted call
+
+module _ (iq : List Float) (fs hz : Float) (elements : List Float) (count : ℕ) (fits work : List Float) where
+  pub fit-refused : (n : ℕ) (lent : List (List Float)) → refused n lent ≡ fitRule iq fs hz elements count fits work → n ≡ 0 → ⊥
+  unfolding fitRule
+  fit-refused n lent e = refused-by _ _ _ n lent e
+
+  pub fit-done : (r : FitResult) → accepted r ≡ fitRule iq fs hz elements count fits work
+      → (firstNo (fitQuestions iq fs hz elements count (length fits) (length work)) ≡ 0) × (r .fitted ≡ length (fitsGiven iq fs hz elements count))
+      × (r .fits ≡ handed FIT (fitsGiven iq fs hz elements count) fits)
+  unfolding fitRule
+  fit-done r e =
+      let told = accepted-by _ _ _ r e in
+      (told .0, ap (λ (r : FitResult). r .fitted) (told .1), ap (λ (r : FitResult). r .fits) (told .1))

@@ -16,8 +16,9 @@ use Rattle.float.specs.Size.{finiteF, sized}
 use Rattle.float.proofs.Compared.{yes}
 use Rattle.elements.specs.declared.element.KeyedElement.{KeyedElement}
 use Rattle.fits.specs.declared.fit.ElementFit.{ElementFit}
-use Rattle.fits.specs.Fit.{Timed}
-use Rattle.fits.specs.Lists.{AllTimed, fitAt}
+use Rattle.elements.specs.Element.{ELEMENT}
+use Rattle.fits.specs.List.{FIT, fitAt}
+use Rattle.fits.specs.Inner.{Timed, AllTimed}
 use Rattle.cancel.specs.Questions.{sizeOk, positionOk, elementOk, allOk, elementsOk, fitOk, fitsOk, estimateOk}
 
 -- ---- tests one after the other, each a way out with false: t is what the last one answered
@@ -94,10 +95,10 @@ timed e h =
     record { first = size-says (e .start) (and-left _ (sizeOk (e .end)) sizes); last = size-says (e .end) (and-right (sizeOk (e .start)) _ sizes) }
 
 pub all-timed : (l : List Float) (count : ℕ) → elementsOk l count ≡ true → AllTimed l count
-all-timed l count h = record { each = λ k b. timed _ (all-at elementOk _ (length l / 4) count k h b) }
+all-timed l count h = record { each = λ k b. timed _ (all-at elementOk _ (length l / ELEMENT) count k h b) }
 
-pub elements-fit : (l : List Float) (count : ℕ) → elementsOk l count ≡ true → 4 * count ≤ length l
-elements-fit l count h = let most = all-fit elementOk _ (length l / 4) count h in omega arith
+pub elements-fit : (l : List Float) (count : ℕ) → elementsOk l count ≡ true → ELEMENT * count ≤ length l
+elements-fit l count h = let most = all-fit elementOk _ (length l / ELEMENT) count h in omega arith
 
 -- a fit whose numbers are of size at most 2^200
 pub record SizedFit (f : ElementFit) : Type 0 where
@@ -122,19 +123,19 @@ sized-fit f h =
     }
 
 pub fit-sized : (l : List Float) (count k : ℕ) → fitsOk l count ≡ true → k < count → SizedFit (fitAt l k)
-fit-sized l count k h b = sized-fit _ (all-at fitOk _ (length l / 8) count k h b)
+fit-sized l count k h b = sized-fit _ (all-at fitOk _ (length l / FIT) count k h b)
 
-pub fits-fit : (l : List Float) (count : ℕ) → fitsOk l count ≡ true → 8 * count ≤ length l
-fits-fit l count h = let most = all-fit fitOk _ (length l / 8) count h in omega arith
+pub fits-fit : (l : List Float) (count : ℕ) → fitsOk l count ≡ true → FIT * count ≤ length l
+fits-fit l count h = let most = all-fit fitOk _ (length l / FIT) count h in omega arith
 
 -- an estimate that is accepted
 pub record SizedEstimate (carrier step : Float) (elements : List Float) (element-count : ℕ) (fits : List Float) (fit-count : ℕ) : Type 0 where
   pub carrier-sized : T (sized carrier)
   pub step-sized : T (sized step)
   pub all-elements : AllTimed elements element-count
-  pub element-room : 4 * element-count ≤ length elements
+  pub element-room : ELEMENT * element-count ≤ length elements
   pub all-fits : (k : ℕ) → k < fit-count → SizedFit (fitAt fits k)
-  pub fit-room : 8 * fit-count ≤ length fits
+  pub fit-room : FIT * fit-count ≤ length fits
 
 pub estimate-sized : (carrier step : Float) (elements : List Float) (element-count : ℕ) (fits : List Float) (fit-count : ℕ)
     → estimateOk carrier step elements element-count fits fit-count ≡ true → SizedEstimate carrier step elements element-count fits fit-count

@@ -1,24 +1,17 @@
--- What a call answers and what it leaves in what it was lent, as one record. Definitions only.
+-- What a call answers, and what it leaves in what it was lent (01, the end of "Questions"). Definitions only.
 use Prim.Native.Nat.{ℕ, zero, suc}
-use mathlib.Core.Bool.{Bool}
 use mathlib.Core.List.{List}
 use lib.Ieee.{Float}
 
--- A is the type of a call's values. `done` says whether it was accepted; the number is 0 then, and else that of the
--- first no. `lists` is what each
--- lent list holds afterwards. The work slice is as it was after a refusal; after an accepted call it is free, which
--- is written as the empty list.
-pub record Outcome (A : Type 0) : Type 0 where
-  pub done : Bool
-  pub number : ℕ
-  pub values : A
-  pub lists : List (List Float)
-  pub work : List Float
+-- An accepted call has its result, of type A: its values, and what each list that it fills hands out. Two things are
+-- free, the work slice and list places past the count; of both the result has the length.
+-- A refused call has its number, which is not 0, and what every lent slice then holds.
+pub data Outcome (A : Type 0) : Type 0 where
+  accepted : A → Outcome A
+  refused : ℕ → List (List Float) → Outcome A
 
-abbrev pub outcome : {A : Type 0} → Bool → ℕ → A → List (List Float) → List Float → Outcome A
-outcome d n v l w = record { done = d; number = n; values = v; lists = l; work = w }
-
--- by the number of the first no: accepted at 0, refused otherwise
-abbrev pub byNumber : {A : Type 0} → ℕ → Outcome A → Outcome A → Outcome A
-byNumber zero accepted refused = accepted
-byNumber (suc n) accepted refused = refused
+-- By the number of the first no: 0 accepts, with the result; any other refuses, with the lent slices. A refusal returns
+-- nothing further and writes nothing.
+unfoldable pub byNumber : {A : Type 0} → ℕ → A → List (List Float) → Outcome A
+byNumber zero result lent = accepted result
+byNumber (suc n) result lent = refused (suc n) lent

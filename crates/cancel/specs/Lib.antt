@@ -1,4 +1,4 @@
--- What the contracts of `cancel` cite.
+-- What the contracts of `cancel` cite: the questions, what a call answers, and each call in a file of its own.
 pub mod Questions
 pub mod Answers
 pub mod Find

@@ -14,9 +14,9 @@ use Rattle.float.specs.Size.{finiteF, sized, 2^}
 use Rattle.row.specs.Samples.{allFinite}
 use Rattle.row.specs.Window.{rateOk}
 use Rattle.elements.specs.declared.element.KeyedElement.{KeyedElement}
-use Rattle.elements.specs.Found.{elementAt}
+use Rattle.elements.specs.Element.{ELEMENT, elementAt}
 use Rattle.fits.specs.declared.fit.ElementFit.{ElementFit}
-use Rattle.fits.specs.Lists.{fitAt}
+use Rattle.fits.specs.List.{FIT, fitAt}
 
 -- a question with its number, and whether the answer is yes
 pub data Asked : Type 0 where
@@ -64,7 +64,7 @@ unfoldable pub allOk : {A : Type 0} → (A → Bool) → (ℕ → A) → ℕ →
 allOk ok at places count = leb count places && every (λ p. ok (at p)) count
 
 abbrev pub elementsOk : List Float → ℕ → Bool
-elementsOk l count = allOk elementOk (elementAt l) (length l / 4) count
+elementsOk l count = allOk elementOk (elementAt l) (length l / ELEMENT) count
 
 -- Is every number of a fit so?
 unfoldable pub fitOk : ElementFit → Bool
@@ -73,7 +73,7 @@ fitOk f =
     && sizeOk (f .«ref_sample»)
 
 abbrev pub fitsOk : List Float → ℕ → Bool
-fitsOk l count = allOk fitOk (fitAt l) (length l / 8) count
+fitsOk l count = allOk fitOk (fitAt l) (length l / FIT) count
 
 -- Is every number of a given estimate so: its carrier, its carrier step, its elements and its fits?
 unfoldable pub estimateOk : Float → Float → List Float → ℕ → List Float → ℕ → Bool

@@ -3,7 +3,9 @@ use crate::questions::carrier_ok;
 use crate::questions::find_places_ok;
 use crate::questions::recording_no;
 use crate::questions::work_ok;
-use fits::estimate::Estimate;
+use elements::ELEMENT;
+use fits::Estimate;
+use fits::FIT;
 ghost use mathlib.Core.Path.{_≡_};
 ghost use Rattle.cancel.specs.Questions.{firstNo};
 ghost use Rattle.cancel.specs.Estimate.{estimateQuestions, estimateOutcome, estimateRule};
@@ -24,10 +26,10 @@ fn estimate_no(iq: &[f32], fs: f64, hint_hz: f64, elements: usize, fits: usize, 
     if !carrier_ok(fs, hint_hz) {
         return 4;
     }
-    if !find_places_ok(iq, fs, elements / 4) {
+    if !find_places_ok(iq, fs, elements / ELEMENT) {
         return 5;
     }
-    if !find_places_ok(iq, fs, fits / 8) {
+    if !find_places_ok(iq, fs, fits / FIT) {
         return 5;
     }
     if !work_ok(iq, fs, work) {
@@ -53,6 +55,6 @@ pub fn estimate_strong(
         return EstimateAnswer::Refused(no);
     }
     let sine = trig::SINE;
-    let estimate = fits::estimate::estimate_strong(iq, fs, hint_hz, elements, fits, work, &sine);
+    let estimate = fits::estimate_strong(iq, fs, hint_hz, elements, fits, work, &sine);
     EstimateAnswer::Done(estimate)
 }

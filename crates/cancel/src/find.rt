@@ -3,6 +3,7 @@ use crate::questions::carrier_ok;
 use crate::questions::find_places_ok;
 use crate::questions::recording_no;
 use crate::questions::work_ok;
+use elements::ELEMENT;
 use elements::Found;
 ghost use mathlib.Core.Path.{_≡_};
 ghost use Rattle.cancel.specs.Questions.{firstNo};
@@ -24,7 +25,7 @@ fn find_no(iq: &[f32], fs: f64, carrier_hz: f64, elements: usize, work: usize) -
     if !carrier_ok(fs, carrier_hz) {
         return 4;
     }
-    if !find_places_ok(iq, fs, elements / 4) {
+    if !find_places_ok(iq, fs, elements / ELEMENT) {
         return 5;
     }
     if !work_ok(iq, fs, work) {

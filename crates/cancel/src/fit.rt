@@ -4,6 +4,7 @@ use crate::questions::elements_ok;
 use crate::questions::given_places_ok;
 use crate::questions::recording_no;
 use crate::questions::work_ok;
+use fits::FIT;
 ghost use mathlib.Core.Path.{_≡_};
 ghost use Rattle.cancel.specs.Questions.{firstNo};
 ghost use Rattle.cancel.specs.Fit.{fitQuestions, fitOutcome, fitRule};
@@ -32,7 +33,7 @@ fn fit_no(
     if !carrier_ok(fs, carrier_hz) {
         return 4;
     }
-    if !given_places_ok(count, fits / 8) {
+    if !given_places_ok(count, fits / FIT) {
         return 5;
     }
     if !work_ok(iq, fs, work) {
@@ -62,6 +63,6 @@ pub fn fit_elements(
         return FitAnswer::Refused(no);
     }
     let sine = trig::SINE;
-    let fitted = fits::list::fit_elements(iq, fs, carrier_hz, elements, count, fits, work, &sine);
+    let fitted = fits::fit_elements(iq, fs, carrier_hz, elements, count, fits, work, &sine);
     FitAnswer::Done(fitted)
 }

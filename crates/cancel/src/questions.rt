@@ -1,8 +1,11 @@
 // 01's questions, each once: yes or no. A call asks those about what it is given, in the order of its own file.
+use elements::ELEMENT;
 use elements::KeyedElement;
 use elements::element_at;
-use fits::fit::ElementFit;
-use fits::list::fit_at;
+use fits::ElementFit;
+use fits::FIT;
+use fits::fit_at;
+use row::step_blocks;
 ghost use mathlib.Core.Path.{_≡_};
 ghost use Prim.Native.Nat.{_/_};
 ghost use lib.ListN.{length};
@@ -42,13 +45,6 @@ pub fn carrier_ok(fs: f64, hz: f64) -> bool
     } else {
         false
     }
-}
-
-// B, the number of whole steps in the recording, by which 5 and 6 measure.
-fn step_blocks(iq: &[f32], fs: f64) -> usize
-    ensures { λ r. ⌜ r ≡ stepBlocks (now (iq .entry)) fs ⌝ }
-{
-    iq.len() / 2 / row::edge_step(fs)
 }
 
 // 5, of a list that a find fills: it has at least floor(B/2) places.
@@ -122,7 +118,7 @@ fn element_ok(e: KeyedElement) -> bool
 pub fn elements_ok(list: &[f64], count: usize) -> bool
     ensures { λ r. ⌜ r ≡ elementsOk (now (list .entry)) count ⌝ }
 {
-    if count > list.len() / 4 {
+    if count > list.len() / ELEMENT {
         return false;
     }
     for p in 0..count {
@@ -157,7 +153,7 @@ fn fit_ok(f: ElementFit) -> bool
 pub fn fits_ok(list: &[f64], count: usize) -> bool
     ensures { λ r. ⌜ r ≡ fitsOk (now (list .entry)) count ⌝ }
 {
-    if count > list.len() / 8 {
+    if count > list.len() / FIT {
         return false;
     }
     for p in 0..count {

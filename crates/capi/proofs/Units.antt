@@ -7,7 +7,7 @@ use lib.Ieee.{Float, nan}
 use borrow.Author.Needs.{needs}
 use Rattle.complex.specs.declared.value.Complex.{Complex}
 use Rattle.complex.proofs.RowLaws.{zFill-none, zFill-turn0, zFill-done}
-use Rattle.capi.specs.Units.{unitOf, unitAt}
+use Rattle.capi.specs.Functions.{unitOf, unitAt}
 
 pub unit-is : (angles : List Float) (k : ℕ) (z : Complex) → z ≡ unitOf (getD angles k nan) → z ≡ unitAt angles k
 unfolding unitAt

@@ -1,56 +1,47 @@
--- The two ways out of a call from C, by what the call below answered. Assumes nothing.
+-- The two ways out of a call from C, by what the call of crate cancel answered. Assumes nothing.
 use Prim.Native.Nat.{ℕ, zero, suc}
-use native.Mathlib.Omega.{arith}
-use mathlib.Core.Path.{_≡_, refl, sym, ap, _∙_}
-use mathlib.Core.Bool.{true, false, true≢false}
-use mathlib.Core.List.{List, [], _∷_}
+use mathlib.Core.Path.{_≡_, refl, ap}
+use mathlib.Core.List.{List, _∷_}
 use lib.ListN.{length}
 use lib.Ieee.{Float}
-use Rattle.elements.specs.Found.{none, stored}
-use Rattle.elements.specs.Find.{foundOf, elementsFound}
-use Rattle.fits.specs.Lists.{storedFits}
-use Rattle.fits.specs.Estimate.{fitsFound, strongEstimate, strongElements, strongFits}
-use Rattle.cancel.specs.Questions.{firstNo}
-use Rattle.cancel.specs.Answers.{Outcome, outcome, byNumber}
-use Rattle.cancel.specs.Find.{findQuestions, findRule}
-use Rattle.cancel.specs.Fit.{fitQuestions, fitsGiven, fitRule}
-use Rattle.cancel.specs.Estimate.{estimateQuestions, noEstimate, estimateRule}
-use Rattle.capi.specs.Calls.{Called, called, calledBy}
+use Rattle.elements.specs.declared.element.KeyedElement.{KeyedElement}
+use Rattle.elements.specs.declared.keying.Found.{Found}
+use Rattle.elements.specs.Element.{Handed, handedElements}
+use Rattle.elements.specs.Find.{foundOf}
+use Rattle.fits.specs.declared.fit.ElementFit.{ElementFit}
+use Rattle.fits.specs.declared.estimate.Estimate.{Estimate}
+use Rattle.fits.specs.List.{handedFits}
+use Rattle.fits.specs.Estimate.{strongEstimate}
+use Rattle.cancel.specs.Answers.{Outcome, accepted, refused, byNumber}
+use Rattle.capi.specs.Calls.{Called, forC, foundFigures, fittedFigures, estimateFigures}
 
--- a refusal's number is not 0
-abbrev pub Numbered : {A : Type 0} → Outcome A → Type 0
-Numbered o = o .done ≡ false → o .number ≡ 0 → ⊥
+refuses : {A : Type 0} (n : ℕ) (a : A) (lent : List (List Float)) → (n ≡ 0 → ⊥) → byNumber n a lent ≡ refused n lent
+unfolding byNumber
+refuses zero a lent h = absurd (h refl)
+refuses (suc n) a lent h = refl
 
-pub numbered-by : {A : Type 0} (first : ℕ) (v u : A) (l k : List (List Float)) (x w : List Float) → Numbered (byNumber first (outcome true 0 v l x) (outcome false first u k w))
-numbered-by zero v u l k x w d z = absurd (true≢false d)
-numbered-by (suc first) v u l k x w d z = let never : ⊥ = omega arith in never
+module _ {A B : Type 0} (told : A → Called B) (figures : List Float) (rule : Outcome A) (called : Called B) where
+  pub refused-call : (n : ℕ) (lent : List (List Float)) → refused n lent ≡ rule → (n ≡ 0 → ⊥) → byNumber n called (figures ∷ lent) ≡ forC told figures rule
+  refused-call n lent e h = rw (← e) (refuses n called (figures ∷ lent) h)
 
-pub find-numbered : (iq : List Float) (fs hz : Float) (elements work : List Float) → Numbered (findRule iq fs hz elements work)
-unfolding findRule
-find-numbered iq fs hz elements work =
-    numbered-by (firstNo (findQuestions iq fs hz (length elements) (length work))) (foundOf iq fs hz) none (stored elements (elementsFound iq fs hz) ∷ []) (elements ∷ []) [] work
+  pub done-call : (r : A) (lent : List (List Float)) → accepted r ≡ rule → called ≡ told r → byNumber 0 called lent ≡ forC told figures rule
+  unfolding byNumber
+  done-call r lent e q = rw (← e) (ap accepted q)
 
-pub fit-numbered : (iq : List Float) (fs hz : Float) (elements : List Float) (count : ℕ) (fits work : List Float) → Numbered (fitRule iq fs hz elements count fits work)
-unfolding fitRule
-fit-numbered iq fs hz elements count fits work =
-    let given = fitsGiven iq fs hz elements count in
-    numbered-by (firstNo (fitQuestions iq fs hz elements count (length fits) (length work))) (length given) 0 (storedFits fits given ∷ []) (fits ∷ []) [] work
+-- an accepted call has the figures of its answer, and counts what the rules count
+module _ (work : ℕ) (figures : List Float) where
+  pub find-told : (f g : Found) (left : List Float) → f ≡ g → figures ≡ foundFigures f
+      → _≡_ {A = Called (Handed KeyedElement)} (record { figures = figures; lists = handedElements left (g .listed); work = work })
+      (record { figures = foundFigures f; lists = handedElements left (f .listed); work = work })
+  find-told f g left e q = rw (q, e)
 
-pub estimate-numbered : (iq : List Float) (fs hint : Float) (elements fits work : List Float) → Numbered (estimateRule iq fs hint elements fits work)
-unfolding estimateRule
-estimate-numbered iq fs hint elements fits work =
-    let listed = stored (stored elements (elementsFound iq fs hint)) (strongElements iq fs hint) in
-    let fitted = storedFits (storedFits fits (fitsFound iq fs hint)) (strongFits iq fs hint) in
-    numbered-by (firstNo (estimateQuestions iq fs hint (length elements) (length fits) (length work))) (strongEstimate iq fs hint) noEstimate (listed ∷ fitted ∷ [])
-    (elements ∷ fits ∷ []) [] work
+  pub fit-told : (m n : ℕ) (left : List Float) → m ≡ n → figures ≡ fittedFigures m
+      → _≡_ {A = Called (Handed ElementFit)} (record { figures = figures; lists = handedFits left n; work = work })
+      (record { figures = fittedFigures m; lists = handedFits left m; work = work })
+  fit-told m n left e q = rw (q, e)
 
-called-refused : (n : ℕ) (l : List (List Float)) (w f : List Float) → (n ≡ 0 → ⊥) → called n l w f ≡ record { number = n; lists = l; work = w; figures = f }
-called-refused zero l w f h = absurd (h refl)
-called-refused (suc n) l w f h = refl
-
-module _ {A : Type 0} (figures : A → List Float) (rule : Outcome A) (v : A) (l : List (List Float)) (w f : List Float) where
-  pub refused-call : (n : ℕ) → Numbered rule → outcome false n v l w ≡ rule → called n l w f ≡ calledBy figures rule f
-  refused-call n h e = rw (← e) (called-refused n l w f (rw (← e) at h refl))
-
-  pub done-call : (g : List Float) → outcome true 0 v l [] ≡ rule → g ≡ figures v → called 0 l w g ≡ calledBy figures rule f
-  done-call g e q = rw (← e, q)
+  pub estimate-told : (d e : Estimate) (left fits-left : List Float) → d ≡ e → figures ≡ estimateFigures d
+      → _≡_ {A = Called (Handed KeyedElement × Handed ElementFit)}
+      (record { figures = figures; lists = (handedElements left (e .found .listed), handedFits fits-left (e .fitted)); work = work })
+      (record { figures = estimateFigures d; lists = (handedElements left (d .found .listed), handedFits fits-left (d .fitted)); work = work })
+  estimate-told d e left fits-left h q = rw (q, h)

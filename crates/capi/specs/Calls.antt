@@ -1,54 +1,79 @@
--- What a call from C returns and leaves in what it was lent. Definitions only.
-use Prim.Native.Nat.{ℕ, zero, suc}
-use mathlib.Core.Bool.{Bool, true, false}
+-- What a call from C returns and leaves in what it was lent (include/cancel.h). Definitions only.
+use Prim.Native.Nat.{ℕ}
 use mathlib.Core.List.{List, [], _∷_}
+use lib.ListN.{length}
 use lib.Ieee.{Float}
 use Rattle.float.specs.Ops.{of}
+use Rattle.elements.specs.declared.element.KeyedElement.{KeyedElement}
 use Rattle.elements.specs.declared.keying.Found.{Found}
+use Rattle.elements.specs.Element.{Handed, handedElements}
+use Rattle.fits.specs.declared.fit.ElementFit.{ElementFit}
 use Rattle.fits.specs.declared.estimate.Estimate.{Estimate}
-use Rattle.cancel.specs.Answers.{Outcome}
-use Rattle.cancel.specs.Find.{findRule}
-use Rattle.cancel.specs.Fit.{fitRule}
-use Rattle.cancel.specs.Estimate.{estimateRule}
+use Rattle.fits.specs.List.{handedFits}
+use Rattle.cancel.specs.Answers.{Outcome, accepted, refused, byNumber}
+use Rattle.cancel.specs.Find.{FindResult, findRule}
+use Rattle.cancel.specs.Fit.{FitResult, fitRule}
+use Rattle.cancel.specs.Estimate.{EstimateResult, estimateRule}
 
--- The number; what each lent list holds; the work slice, which is free where the number is 0; the figures.
-pub record Called : Type 0 where
-  pub number : ℕ
-  pub lists : List (List Float)
-  pub work : List Float
+-- The result of an accepted call: its figures, what its lists hand out, of type A, and the length of the work slice.
+pub record Called (A : Type 0) : Type 0 where
   pub figures : List Float
+  pub lists : A
+  pub work : ℕ
 
-abbrev pub called : ℕ → List (List Float) → List Float → List Float → Called
-called zero l w f = record { number = 0; lists = l; work = []; figures = f }
-called (suc n) l w f = record { number = suc n; lists = l; work = w; figures = f }
+-- The outcome of a call of crate cancel, for C. A refusal leaves the figures as they were.
+abbrev pub forC : {A B : Type 0} → (A → Called B) → List Float → Outcome A → Outcome (Called B)
+forC told figures (accepted r) = accepted (told r)
+forC told figures (refused n lent) = refused n (figures ∷ lent)
 
--- what the call below answers, with its values as figures where it was accepted, and the figures as they were where not
-abbrev pub written : Bool → List Float → List Float → List Float
-written true now before = now
-written false now before = before
+-- ---- cancel_find_elements
 
-abbrev pub calledBy : {A : Type 0} → (A → List Float) → Outcome A → List Float → Called
-calledBy figures o before = record { number = o .number; lists = o .lists; work = o .work; figures = written (o .done) (figures (o .values)) before }
-
--- figures of cancel_find_elements: key-downs, listed, short, airtime
+-- figures: key-downs, listed, short, airtime
 abbrev pub foundFigures : Found → List Float
 foundFigures f = of (f .«key_downs») ∷ of (f .listed) ∷ of (f .short) ∷ of (f .airtime) ∷ []
 
-unfoldable pub findCall : List Float → Float → Float → List Float → List Float → List Float → Called
-findCall iq fs hz elements work figures = calledBy foundFigures (findRule iq fs hz elements work) figures
+-- of the number that is returned, 0 for an accepted call, with what the lent slices then hold: `listed` elements
+abbrev pub findCalled : ℕ → ℕ → List Float → List Float → List Float → Outcome (Called (Handed KeyedElement))
+findCalled n listed elements work figures =
+    byNumber n (record { figures = figures; lists = handedElements elements listed; work = length work }) (figures ∷ elements ∷ work ∷ [])
 
--- figures of cancel_fit_elements: fitted
+abbrev pub findTold : FindResult → Called (Handed KeyedElement)
+findTold r = record { figures = foundFigures (r .found); lists = r .elements; work = r .work }
+
+unfoldable pub findCall : List Float → Float → Float → List Float → List Float → List Float → Outcome (Called (Handed KeyedElement))
+findCall iq fs hz elements work figures = forC findTold figures (findRule iq fs hz elements work)
+
+-- ---- cancel_fit_elements
+
+-- figures: fitted
 abbrev pub fittedFigures : ℕ → List Float
 fittedFigures fitted = of fitted ∷ []
 
-unfoldable pub fitCall : List Float → Float → Float → List Float → ℕ → List Float → List Float → List Float → Called
-fitCall iq fs hz elements count fits work figures = calledBy fittedFigures (fitRule iq fs hz elements count fits work) figures
+abbrev pub fitCalled : ℕ → ℕ → List Float → List Float → List Float → Outcome (Called (Handed ElementFit))
+fitCalled n fitted fits work figures =
+    byNumber n (record { figures = figures; lists = handedFits fits fitted; work = length work }) (figures ∷ fits ∷ work ∷ [])
 
--- figures of cancel_estimate_strong: carrier_hz, carrier_step_hz, key-downs, listed, short, airtime, fitted
+abbrev pub fitTold : FitResult → Called (Handed ElementFit)
+fitTold r = record { figures = fittedFigures (r .fitted); lists = r .fits; work = r .work }
+
+unfoldable pub fitCall : List Float → Float → Float → List Float → ℕ → List Float → List Float → List Float → Outcome (Called (Handed ElementFit))
+fitCall iq fs hz elements count fits work figures = forC fitTold figures (fitRule iq fs hz elements count fits work)
+
+-- ---- cancel_estimate_strong
+
+-- figures: carrier_hz, carrier_step_hz, key-downs, listed, short, airtime, fitted
 abbrev pub estimateFigures : Estimate → List Float
 estimateFigures e =
     e .«carrier_hz» ∷ e .«carrier_step_hz» ∷ of (e .found .«key_downs») ∷ of (e .found .listed) ∷ of (e .found .short) ∷ of (e .found .airtime)
     ∷ of (e .fitted) ∷ []
 
-unfoldable pub estimateCall : List Float → Float → Float → List Float → List Float → List Float → List Float → Called
-estimateCall iq fs hint elements fits work figures = calledBy estimateFigures (estimateRule iq fs hint elements fits work) figures
+abbrev pub estimateCalled : ℕ → Estimate → List Float → List Float → List Float → List Float → Outcome (Called (Handed KeyedElement × Handed ElementFit))
+estimateCalled n e elements fits work figures =
+    byNumber n (record { figures = figures; lists = (handedElements elements (e .found .listed), handedFits fits (e .fitted)); work = length work })
+    (figures ∷ elements ∷ fits ∷ work ∷ [])
+
+abbrev pub estimateTold : EstimateResult → Called (Handed KeyedElement × Handed ElementFit)
+estimateTold r = record { figures = estimateFigures (r .estimate); lists = (r .elements, r .fits); work = r .work }
+
+unfoldable pub estimateCall : List Float → Float → Float → List Float → List Float → List Float → List Float → Outcome (Called (Handed KeyedElement × Handed ElementFit))
+estimateCall iq fs hint elements fits work figures = forC estimateTold figures (estimateRule iq fs hint elements fits work)

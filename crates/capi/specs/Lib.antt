@@ -1,3 +1,3 @@
--- What the contracts of `capi` cite.
+-- What the contracts of `capi` cite, each file named as its source.
 pub mod Calls
-pub mod Units
+pub mod Functions

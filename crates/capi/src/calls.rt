@@ -4,8 +4,11 @@ use cancel::FindAnswer;
 use cancel::FitAnswer;
 use std::num::nearest_u64_to_f64;
 ghost use mathlib.Core.Path.{_≡_};
-ghost use mathlib.Core.List.{[], _∷_};
-ghost use Rattle.capi.specs.Calls.{called, findCall, fitCall, estimateCall};
+ghost use lib.ListN.{length};
+ghost use Rattle.elements.specs.Find.{foundOf};
+ghost use Rattle.fits.specs.Estimate.{strongEstimate};
+ghost use Rattle.cancel.specs.Fit.{fitsGiven};
+ghost use Rattle.capi.specs.Calls.{findCalled, findCall, fitCalled, fitCall, estimateCalled, estimateCall};
 
 #[no_mangle]
 pub extern "C" fn cancel_find_elements(
@@ -16,7 +19,7 @@ pub extern "C" fn cancel_find_elements(
     work: &mut [f64],
     figures: &mut [f64; 4],
 ) -> u64
-    ensures { λ r. ⌜ called r (now (elements .exit) ∷ []) (now (work .exit)) (now (figures .exit))
+    ensures { λ r. ⌜ findCalled r (foundOf (now (iq .entry)) fs «carrier_hz» .listed) (now (elements .exit)) (now (work .exit)) (now (figures .exit))
         ≡ findCall (now (iq .entry)) fs «carrier_hz» (now (elements .entry)) (now (work .entry)) (now (figures .entry)) ⌝ }
 {
     match cancel::find_elements(iq, fs, carrier_hz, elements, work) {
@@ -44,7 +47,8 @@ pub extern "C" fn cancel_fit_elements(
     work: &mut [f64],
     figures: &mut [f64; 1],
 ) -> u64
-    ensures { λ r. ⌜ called r (now (fits .exit) ∷ []) (now (work .exit)) (now (figures .exit))
+    ensures { λ r. ⌜ fitCalled r (length (fitsGiven (now (iq .entry)) fs «carrier_hz» (now (elements .entry)) «element_count»))
+        (now (fits .exit)) (now (work .exit)) (now (figures .exit))
         ≡ fitCall (now (iq .entry)) fs «carrier_hz» (now (elements .entry)) «element_count» (now (fits .entry)) (now (work .entry)) (now (figures .entry)) ⌝ }
 {
     match cancel::fit_elements(iq, fs, carrier_hz, elements, element_count, fits, work) {
@@ -66,7 +70,7 @@ pub extern "C" fn cancel_estimate_strong(
     work: &mut [f64],
     figures: &mut [f64; 7],
 ) -> u64
-    ensures { λ r. ⌜ called r (now (elements .exit) ∷ now (fits .exit) ∷ []) (now (work .exit)) (now (figures .exit))
+    ensures { λ r. ⌜ estimateCalled r (strongEstimate (now (iq .entry)) fs «hint_hz») (now (elements .exit)) (now (fits .exit)) (now (work .exit)) (now (figures .exit))
         ≡ estimateCall (now (iq .entry)) fs «hint_hz» (now (elements .entry)) (now (fits .entry)) (now (work .entry)) (now (figures .entry)) ⌝ }
 {
     match cancel::estimate_strong(iq, fs, hint_hz, elements, fits, work) {

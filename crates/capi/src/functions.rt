@@ -5,7 +5,7 @@ ghost use Prim.Native.Nat.{_/_, _≤_, min};
 ghost use lib.ListN.{length};
 ghost use Rattle.trig.specs.Sine.{sineTable};
 ghost use Rattle.complex.specs.Rows.{zFill};
-ghost use Rattle.capi.specs.Units.{unitOf, unitAt};
+ghost use Rattle.capi.specs.Functions.{unitOf, unitAt};
 ghost use Rattle.float.specs.Single.{narrowOf};
 ghost use Rattle.trig.specs.Circle.{sinOf, cosOf};
 ghost use Rattle.trig.specs.Argument.{argOf};

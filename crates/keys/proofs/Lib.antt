@@ -1,2 +1,4 @@
--- The laws behind the proofs of `keys`.
+-- Laws behind the proofs of `keys`.
+
+-- Counts      the step at the program's rate: `step-here`
 pub mod Counts

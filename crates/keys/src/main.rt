@@ -4,13 +4,14 @@
 use cancel::EstimateAnswer;
 use elements::Found;
 use elements::element_at;
-use fits::estimate::Estimate;
+use fits::Estimate;
 use float::whole::to_whole;
 use libc::STDIN_FILENO;
 use libc::STDOUT_FILENO;
 ghost use mathlib.Core.Path.{_≡_};
 ghost use Prim.Native.Nat.{_*_, _≤_};
 ghost use lib.ListN.{length};
+ghost use Rattle.elements.specs.Element.{ELEMENT};
 
 fn text(s: &[u8]) {
     io::write_all(STDOUT_FILENO, s);
@@ -69,7 +70,7 @@ fn key(up: f64, down: f64) {
 }
 
 fn each_key(elements: &[f64], listed: usize)
-    requires { ⌜ 4 * listed ≤ length (now elements) ⌝ }
+    requires { ⌜ ELEMENT * listed ≤ length (now elements) ⌝ }
 {
     for p in 0..listed {
         let e = element_at(elements, p);
@@ -79,7 +80,7 @@ fn each_key(elements: &[f64], listed: usize)
 
 fn done(samples: usize, e: Estimate, elements: &[f64])
     requires { ⌜ e .fitted ≤ e .found .listed ⌝ }
-    requires { ⌜ 4 * e .found .listed ≤ length (now elements) ⌝ }
+    requires { ⌜ ELEMENT * e .found .listed ≤ length (now elements) ⌝ }
 {
     text(b"(run 0");
     size(samples);

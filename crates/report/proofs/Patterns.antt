@@ -7,14 +7,14 @@ use lib.Ieee.{binary32, nan, ofBits, ofFields, nanBits}
 use borrow.Author.Tests.{eq-eqb, ne-eqb}
 
 -- a NaN's pattern: the exponent's field is all ones, and a digit is not 0
-pub is-nan : (b : ℕ) → b % 2147483648 / 8388608 ≡ 255 → (b % 8388608 ≡ 0 → ⊥) → nan ≡ ofBits binary32 b
+pub is-nan : (b : ℕ) → b % 0x8000_0000 / 0x80_0000 ≡ 255 → (b % 0x80_0000 ≡ 0 → ⊥) → nan ≡ ofBits binary32 b
 unfolding ofBits ofFields
 is-nan b e f = rw (e, ne-eqb _ _ f)
 
-pub is-number : (b : ℕ) → (b % 2147483648 / 8388608 ≡ 255 → ⊥) → T (not (nanBits binary32 b))
+pub is-number : (b : ℕ) → (b % 0x8000_0000 / 0x80_0000 ≡ 255 → ⊥) → T (not (nanBits binary32 b))
 unfolding nanBits
 is-number b e = rw (ne-eqb _ _ e) tt
 
-pub is-infinity : (b : ℕ) → b % 8388608 ≡ 0 → T (not (nanBits binary32 b))
+pub is-infinity : (b : ℕ) → b % 0x80_0000 ≡ 0 → T (not (nanBits binary32 b))
 unfolding nanBits
-is-infinity b f = rw (eq-eqb _ _ f, and-false (eqb (b % 2147483648 / 8388608) 255)) tt
+is-infinity b f = rw (eq-eqb _ _ f, and-false (eqb (b % 0x8000_0000 / 0x80_0000) 255)) tt

@@ -1,5 +1,5 @@
 -- A recording as bytes (01, part 8 and question 2): little-endian f32 pairs. Definitions only.
-use Prim.Native.Nat.{ℕ, _+_, _*_, _%_}
+use Prim.Native.Nat.{ℕ, _+_, _*_, _%_, _^_}
 use lib.Dec.{leb, eqb}
 use mathlib.Core.Bool.{Bool, _&&_}
 use mathlib.Core.List.{List}
@@ -13,7 +13,7 @@ bytesOk n = eqb (n % 8) 0 && leb n 16384
 -- the bit pattern that part i has in the bytes: four of them, the least first
 abbrev pub patternAt : List ℕ → ℕ → ℕ
 patternAt bytes i =
-    getD bytes (4 * i) 0 + 256 * getD bytes (4 * i + 1) 0 + 65536 * getD bytes (4 * i + 2) 0 + 16777216 * getD bytes (4 * i + 3) 0
+    getD bytes (4 * i) 0 + 2 ^ 8 * getD bytes (4 * i + 1) 0 + 2 ^ 16 * getD bytes (4 * i + 2) 0 + 2 ^ 24 * getD bytes (4 * i + 3) 0
 
 -- part i, real or imaginary: the f32 of that pattern. Every NaN's pattern is the one NaN.
 abbrev pub partAt : List ℕ → ℕ → Float

@@ -1,6 +1,6 @@
 // A recording as bytes: little-endian f32, real then imaginary.
 ghost use mathlib.Core.Path.{_≡_};
-ghost use Prim.Native.Nat.{_+_, _*_, _/_, _≤_, _<_};
+ghost use Prim.Native.Nat.{_+_, _*_, _/_, _^_, _≤_, _<_};
 ghost use lib.ListN.{length};
 ghost use lib.Ieee.{binary32, ofBits};
 ghost use Rattle.lists.specs.Fill.{fill};
@@ -14,9 +14,9 @@ pub fn bytes_ok(n: usize) -> bool
 }
 
 fn number_of(a: u8, b: u8, c: u8, d: u8) -> u32
-    ensures { λ r. ⌜ r ≡ a + 256 * b + 65536 * c + 16777216 * d ⌝ }
+    ensures { λ r. ⌜ r ≡ a + 2 ^ 8 * b + 2 ^ 16 * c + 2 ^ 24 * d ⌝ }
 {
-    a as u32 + 256 * (b as u32) + 65536 * (c as u32) + 16777216 * (d as u32)
+    a as u32 + 0x100 * (b as u32) + 0x1_0000 * (c as u32) + 0x100_0000 * (d as u32)
 }
 
 // The bit pattern of part i.

@@ -1,7 +1,7 @@
 -- `keys::estimate` is safe and ends. Assumes nothing.
 use native.Mathlib.Omega.{arith}
 use borrow.Author.Needs.{needs}
-use Rattle.keys.proofs.Counts.{sane}
+use Rattle.cancel.proofs.EstimateAccepted.{estimate-counts}
 use Rattle.keys.proofs.estimate.Statement.{statement}
 use Rattle.keys.proofs.estimate.Tie as tie
 
@@ -9,9 +9,9 @@ done-requires : tie.Need-done-requires
 done-requires c κs =
     let told = c .before .before in
     let asked = told .before .before .before .before .before in
-    let s = sane _ _ _ _ _ _ _ _ (rw (told .e .given .1) at (asked .estimate-strong .ensures)) in
+    let counts = estimate-counts _ _ _ _ _ _ _ (rw (told .e .given .1) at (asked .estimate-strong .ensures)) in
     let kept = asked .estimate-strong .kept in
-    (s .0, omega arith)
+    (counts .0, omega arith)
 
 pub estimate-spec : {M : Type 1} → statement M
 estimate-spec =

@@ -1,5 +1,6 @@
 -- `cancel::estimate_strong` meets its contract: the first no is the answer, and where there is none, what the work
 -- below estimates. Assumes nothing.
+use native.Mathlib.Omega.{arith}
 use mathlib.Core.Path.{_≡_, refl, sym, _∙_}
 use denote.Ref.{now}
 use lib.ListN.{length}
@@ -7,8 +8,8 @@ use borrow.Author.Needs.{needs}
 use Rattle.trig.specs.Sine.{sineTable}
 use Rattle.cancel.specs.Questions.{firstNo}
 use Rattle.cancel.specs.Estimate.{estimateQuestions, estimateRule}
-use Rattle.cancel.proofs.Accepted.{refused, accepted}
-use Rattle.cancel.proofs.EstimateAccepted.{estimate-accepted}
+use Rattle.cancel.proofs.Accepted.{refuses, accepts}
+use Rattle.cancel.proofs.EstimateAccepted.{estimate-accepted, estimate-result}
 use Rattle.cancel.proofs.estimate.estimate_strong.Statement.{statement}
 use Rattle.cancel.proofs.estimate.estimate_strong.Tie as tie
 
@@ -31,15 +32,15 @@ estimate-strong-requires c κs =
 
 returns : tie.Need-returns
 unfolding estimateRule
-returns c = refused _ _ _ _ _ (c .before .estimate-no .ensures) (c .if1 .taken) (rw (c .before .estimate-no .ensures))
+returns c = refuses _ _ _ _ (c .before .estimate-no .ensures) (c .if1 .taken)
 
 returns-2 : tie.Need-returns-2
 unfolding estimateRule
 returns-2 c =
     let done = c .before .before .before .before .before .before in
     let asked = done .before .before .before .before .before in
-    accepted _ _ _ _ _ (asked .before .estimate-no .ensures) (asked .if1 .left)
-    (rw (done .estimate-strong .ensures .0, done .estimate-strong .ensures .1, done .estimate-strong .ensures .2))
+    accepts _ _ _ _ _ (asked .before .estimate-no .ensures) (asked .if1 .left)
+    (estimate-result _ _ _ _ _ _ _ _ (done .estimate-strong .ensures .0) (done .estimate-strong .ensures .1) (done .estimate-strong .ensures .2) (omega arith))
 
 pub estimate-strong-spec : {M : Type 1} → statement M
 estimate-strong-spec =

@@ -1,5 +1,6 @@
 -- `cancel::find_elements` meets its contract: the first no is the answer, and where there is none, what the work
 -- below finds. Assumes nothing.
+use native.Mathlib.Omega.{arith}
 use mathlib.Core.Path.{_≡_, refl, sym, _∙_}
 use denote.Ref.{now}
 use lib.ListN.{length}
@@ -7,8 +8,8 @@ use borrow.Author.Needs.{needs}
 use Rattle.trig.specs.Sine.{sineTable}
 use Rattle.cancel.specs.Questions.{firstNo}
 use Rattle.cancel.specs.Find.{findQuestions, findRule}
-use Rattle.cancel.proofs.Accepted.{refused, accepted}
-use Rattle.cancel.proofs.FindAccepted.{find-accepted}
+use Rattle.cancel.proofs.Accepted.{refuses, accepts}
+use Rattle.cancel.proofs.FindAccepted.{find-accepted, find-result}
 use Rattle.cancel.proofs.find.find_elements.Statement.{statement}
 use Rattle.cancel.proofs.find.find_elements.Tie as tie
 
@@ -27,14 +28,14 @@ find-elements-requires c κs =
 
 returns : tie.Need-returns
 unfolding findRule
-returns c = refused _ _ _ _ _ (c .before .find-no .ensures) (c .if1 .taken) (rw (c .before .find-no .ensures))
+returns c = refuses _ _ _ _ (c .before .find-no .ensures) (c .if1 .taken)
 
 returns-2 : tie.Need-returns-2
 unfolding findRule
 returns-2 c =
     let found = c .before .before .before .before in
     let asked = found .before .before .before .before in
-    accepted _ _ _ _ _ (asked .before .find-no .ensures) (asked .if1 .left) (rw (found .find-elements .ensures .0, found .find-elements .ensures .1))
+    accepts _ _ _ _ _ (asked .before .find-no .ensures) (asked .if1 .left) (find-result _ _ _ _ _ _ (found .find-elements .ensures .0) (found .find-elements .ensures .1) (omega arith))
 
 pub find-elements-spec : {M : Type 1} → statement M
 find-elements-spec =

@@ -1,5 +1,6 @@
 -- `cancel::fit_elements` meets its contract: the first no is the answer, and where there is none, what the work below
 -- fits. Assumes nothing.
+use native.Mathlib.Omega.{arith}
 use mathlib.Core.Path.{_≡_, refl, sym, _∙_}
 use denote.Ref.{now}
 use lib.ListN.{length}
@@ -7,8 +8,8 @@ use borrow.Author.Needs.{needs}
 use Rattle.trig.specs.Sine.{sineTable}
 use Rattle.cancel.specs.Questions.{firstNo}
 use Rattle.cancel.specs.Fit.{fitQuestions, fitRule}
-use Rattle.cancel.proofs.Accepted.{refused, accepted}
-use Rattle.cancel.proofs.FitAccepted.{fit-accepted}
+use Rattle.cancel.proofs.Accepted.{refuses, accepts}
+use Rattle.cancel.proofs.FitAccepted.{fit-accepted, fit-result}
 use Rattle.cancel.proofs.fit.fit_elements.Statement.{statement}
 use Rattle.cancel.proofs.fit.fit_elements.Tie as tie
 
@@ -31,14 +32,14 @@ fit-elements-requires c κs =
 
 returns : tie.Need-returns
 unfolding fitRule
-returns c = refused _ _ _ _ _ (c .before .fit-no .ensures) (c .if1 .taken) (rw (c .before .fit-no .ensures))
+returns c = refuses _ _ _ _ (c .before .fit-no .ensures) (c .if1 .taken)
 
 returns-2 : tie.Need-returns-2
 unfolding fitRule
 returns-2 c =
     let fitted = c .before .before .before .before in
     let asked = fitted .before .before .before .before in
-    accepted _ _ _ _ _ (asked .before .fit-no .ensures) (asked .if1 .left) (rw (fitted .fit-elements .ensures .0, fitted .fit-elements .ensures .1))
+    accepts _ _ _ _ _ (asked .before .fit-no .ensures) (asked .if1 .left) (fit-result _ _ _ _ _ _ (fitted .fit-elements .ensures .0) (fitted .fit-elements .ensures .1) (omega arith))
 
 pub fit-elements-spec : {M : Type 1} → statement M
 fit-elements-spec =

@@ -4,14 +4,14 @@ use Prim.Native.Nat.{_-_, _/_, _≤_}
 use mathlib.Core.Path.{_≡_}
 use mathlib.Core.Bool.{true}
 use lib.ListN.{length}
-use Rattle.elements.specs.Found.{elementAt}
+use Rattle.elements.specs.Element.{ELEMENT, elementAt}
 use Rattle.cancel.specs.Questions.{elementOk}
 use Rattle.cancel.proofs.Given.{okTo, given}
 use Rattle.cancel.proofs.questions.elements_ok.Statement.{statement}
 use Rattle.cancel.proofs.questions.elements_ok.Tie as tie
 
 abbrev Inv-loop : tie.InvT-loop
-Inv-loop list count p₀ p = (p ≤ count) × (count ≤ length list / 4) × (okTo elementOk (elementAt list) p ≡ true)
+Inv-loop list count p₀ p = (p ≤ count) × (count ≤ length list / ELEMENT) × (okTo elementOk (elementAt list) p ≡ true)
 
 abbrev μ-loop : tie.MeasureT-loop
 μ-loop list count p₀ p = count - p

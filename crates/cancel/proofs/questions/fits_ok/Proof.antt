@@ -4,14 +4,14 @@ use Prim.Native.Nat.{_-_, _/_, _≤_}
 use mathlib.Core.Path.{_≡_}
 use mathlib.Core.Bool.{true}
 use lib.ListN.{length}
-use Rattle.fits.specs.Lists.{fitAt}
+use Rattle.fits.specs.List.{FIT, fitAt}
 use Rattle.cancel.specs.Questions.{fitOk}
 use Rattle.cancel.proofs.Given.{okTo, given}
 use Rattle.cancel.proofs.questions.fits_ok.Statement.{statement}
 use Rattle.cancel.proofs.questions.fits_ok.Tie as tie
 
 abbrev Inv-loop : tie.InvT-loop
-Inv-loop list count p₀ p = (p ≤ count) × (count ≤ length list / 8) × (okTo fitOk (fitAt list) p ≡ true)
+Inv-loop list count p₀ p = (p ≤ count) × (count ≤ length list / FIT) × (okTo fitOk (fitAt list) p ≡ true)
 
 abbrev μ-loop : tie.MeasureT-loop
 μ-loop list count p₀ p = count - p

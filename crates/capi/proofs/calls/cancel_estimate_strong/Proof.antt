@@ -1,9 +1,8 @@
 -- `capi::calls::cancel_estimate_strong` meets its contract. Assumes nothing.
-use mathlib.Core.List.{[]}
 use borrow.Author.Needs.{needs}
-use Rattle.cancel.specs.Estimate.{noEstimate}
-use Rattle.capi.specs.Calls.{estimateCall, estimateFigures}
-use Rattle.capi.proofs.Ways.{estimate-numbered, refused-call, done-call}
+use Rattle.cancel.proofs.EstimateAccepted.{estimate-refused, estimate-done}
+use Rattle.capi.specs.Calls.{estimateCall, estimateTold}
+use Rattle.capi.proofs.Ways.{refused-call, done-call, estimate-told}
 use Rattle.capi.proofs.calls.cancel_estimate_strong.Statement.{statement}
 use Rattle.capi.proofs.calls.cancel_estimate_strong.Tie as tie
 
@@ -11,16 +10,18 @@ returns : tie.Need-returns
 unfolding estimateCall
 returns c =
     let asked = c .before .before .before .before .before .before .before .before .before in
-    refused-call estimateFigures _ noEstimate _ _ _ (c .before .no .given .0 .0) (estimate-numbered _ _ _ _ _ _)
-    (rw (c .before .no .given .1) at (asked .estimate-strong .ensures))
+    let answered = (rw (c .before .no .given .1) at (asked .estimate-strong .ensures)) in
+    refused-call estimateTold _ _ _ _ _ answered (estimate-refused _ _ _ _ _ _ _ _ answered)
 
 returns-2 : tie.Need-returns-2
 unfolding estimateCall
 returns-2 c =
     let told = c .before .before .before .before .before .before .before in
     let asked = told .before .before .before .before .before .before .before .before .before in
-    done-call estimateFigures _ _ _ [] _ _ (rw (told .before .e .given .1) at (asked .estimate-strong .ensures))
-    (rw (c .before .before .before .before .before .nearest-u64-to-f64 .ensures, c .before .before .before .before .nearest-u64-to-f642 .ensures, c .before .before .before .nearest-u64-to-f643 .ensures, c .before .before .nearest-u64-to-f644 .ensures, c .before .nearest-u64-to-f645 .ensures))
+    let answered = (rw (told .before .e .given .1) at (asked .estimate-strong .ensures)) in
+    done-call estimateTold _ _ _ _ _ answered
+    (estimate-told _ _ _ _ _ _ (estimate-done _ _ _ _ _ _ _ answered .1)
+    (rw (c .before .before .before .before .before .nearest-u64-to-f64 .ensures, c .before .before .before .before .nearest-u64-to-f642 .ensures, c .before .before .before .nearest-u64-to-f643 .ensures, c .before .before .nearest-u64-to-f644 .ensures, c .before .nearest-u64-to-f645 .ensures)))
 
 pub cancel-estimate-strong-spec : {M : Type 1} → statement M
 cancel-estimate-strong-spec =

@@ -1,8 +1,8 @@
 -- `capi::calls::cancel_fit_elements` meets its contract. Assumes nothing.
-use mathlib.Core.List.{[]}
 use borrow.Author.Needs.{needs}
-use Rattle.capi.specs.Calls.{fitCall, fittedFigures}
-use Rattle.capi.proofs.Ways.{fit-numbered, refused-call, done-call}
+use Rattle.cancel.proofs.FitAccepted.{fit-refused, fit-done}
+use Rattle.capi.specs.Calls.{fitCall, fitTold}
+use Rattle.capi.proofs.Ways.{refused-call, done-call, fit-told}
 use Rattle.capi.proofs.calls.cancel_fit_elements.Statement.{statement}
 use Rattle.capi.proofs.calls.cancel_fit_elements.Tie as tie
 
@@ -10,16 +10,16 @@ returns : tie.Need-returns
 unfolding fitCall
 returns c =
     let asked = c .before .before .before .before .before .before .before in
-    refused-call fittedFigures _ 0 _ _ _ (c .before .no .given .0 .0) (fit-numbered _ _ _ _ _ _ _)
-    (rw (c .before .no .given .1) at (asked .fit-elements .ensures))
+    let answered = (rw (c .before .no .given .1) at (asked .fit-elements .ensures)) in
+    refused-call fitTold _ _ _ _ _ answered (fit-refused _ _ _ _ _ _ _ _ _ answered)
 
 returns-2 : tie.Need-returns-2
 unfolding fitCall
 returns-2 c =
     let told = c .before .before in
     let asked = told .before .before .before .before .before .before .before in
-    done-call fittedFigures _ _ _ [] _ _ (rw (told .before .fitted .given .1) at (asked .fit-elements .ensures))
-    (rw (c .before .nearest-u64-to-f64 .ensures))
+    let answered = (rw (told .before .fitted .given .1) at (asked .fit-elements .ensures)) in
+    done-call fitTold _ _ _ _ _ answered (fit-told _ _ _ _ _ (fit-done _ _ _ _ _ _ _ _ answered .1) (rw (c .before .nearest-u64-to-f64 .ensures)))
 
 pub cancel-fit-elements-spec : {M : Type 1} → statement M
 cancel-fit-elements-spec =

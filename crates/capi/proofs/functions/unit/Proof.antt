@@ -1,6 +1,6 @@
 -- `capi::functions::unit` meets its contract. Assumes nothing.
 use borrow.Author.Needs.{needs}
-use Rattle.capi.specs.Units.{unitOf}
+use Rattle.capi.specs.Functions.{unitOf}
 use Rattle.capi.proofs.functions.unit.Statement.{statement}
 use Rattle.capi.proofs.functions.unit.Tie as tie
 

@@ -3,7 +3,7 @@ use Prim.Native.Nat.{_≤_, _-_}
 use mathlib.Core.Path.{_≡_}
 use lib.ListN.{length}
 use Rattle.complex.specs.Rows.{zFill}
-use Rattle.capi.specs.Units.{unitAt}
+use Rattle.capi.specs.Functions.{unitAt}
 use Rattle.capi.proofs.Units.{stores}
 use Rattle.capi.proofs.functions.units.Statement.{statement}
 use Rattle.capi.proofs.functions.units.Tie as tie

@@ -1,4 +1,4 @@
--- The cosine and the sine of an angle as a complex number. Definitions only.
+-- What cancel_cos_sin stores: the cosine and the sine of an angle as a complex number. Definitions only.
 use Prim.Native.Nat.{ℕ}
 use mathlib.Core.List.{List}
 use lib.ListN.{getD}
