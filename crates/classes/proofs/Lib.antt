@@ -18,3 +18,4 @@ pub mod Painted
 pub mod Turns
 pub mod Zones
 pub mod Sizes
+pub mod Edges
