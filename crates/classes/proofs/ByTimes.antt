@@ -6,9 +6,9 @@ use mathlib.Core.List.{List, [], _∷_, _++_, map, map-append}
 use lib.Ieee.{Float}
 use Rattle.lists.specs.Firsts.{firsts}
 use Rattle.elements.specs.declared.element.KeyedElement.{KeyedElement}
-use Rattle.elements.specs.Found.{elementAt}
+use Rattle.elements.specs.Element.{elementAt, elementsIn}
 use Rattle.fits.specs.declared.fit.ElementFit.{ElementFit}
-use Rattle.fits.specs.List.{fitAt, elementsIn, fitsIn}
+use Rattle.fits.specs.List.{fitAt, fitsIn}
 use Rattle.classes.specs.Classify.{Times, timesOf, timesOfFit, classOf}
 
 -- Two estimates with the same times give every block the same class, whatever their positions, gains, slopes and

@@ -1,5 +1,5 @@
 -- The powers of the blocks of a class in the work slice: the loop that gathers them, and what the slice holds then.
-use Prim.Native.Nat.{ℕ, _+_, _*_, _≤_, _<_}
+use Prim.Native.Nat.{ℕ, _+_, _-_, _*_, _≤_, _<_}
 use native.Mathlib.Numerals.{add-one}
 use native.Mathlib.Omega.{arith}
 use mathlib.Core.Path.{_≡_, sym, ap, _∙_}
@@ -9,20 +9,20 @@ use lib.ListN.{length, getD, set, take, drop}
 use lib.Ieee.{Float, nan, eq}
 use Rattle.lists.specs.Count.{countTo}
 use Rattle.lists.specs.Those.{picked, keep}
-use Rattle.lists.proofs.Those.{picked-cong}
-use Rattle.lists.proofs.Kept.{keep-yes, keep-no, keep-done, keep-part, getD-keep-below}
+use Rattle.lists.proofs.Count.{count-most}
+use Rattle.lists.proofs.Those.{picked-cong, length-picked}
+use Rattle.lists.proofs.Kept.{keep-yes, keep-no, keep-done, keep-part, length-keep, getD-keep-below}
 use Rattle.complex.specs.declared.value.Complex.{Complex}
 use Rattle.complex.specs.Value.{cNormSqr}
 use Rattle.complex.specs.Rows.{zAt}
+use Rattle.rank.specs.declared.Percentile.{Percentile}
+use Rattle.rank.specs.Percentile.{percentileOf}
 use Rattle.classes.specs.declared.class.BlockClass.{BlockClass}
 use Rattle.classes.specs.Class.{codeOf, isClass}
 use Rattle.classes.proofs.Codes.{code-tells}
 use Rattle.measure.specs.Powers.{power, powersOf}
-use Rattle.measure.specs.Inner.{Prepared, hasCode, classIn, powerIn}
-
--- ---- what lies below a list that is stored is as it was
-pub zAt-same : (v w : List Float) (k : ℕ) → ((i : ℕ) → i < 2 * k + 2 → getD v i nan ≡ getD w i nan) → zAt v k ≡ zAt w k
-zAt-same v w k e = rw (e (2 * k) (omega arith), e (2 * k + 1) (omega arith))
+use Rattle.measure.proofs.Parts.{zAt-same, zAt-below, take-same, take-at}
+use Rattle.measure.specs.Inner.{Prepared, hasCode, classIn, powerIn, powersIn}
 
 -- The loop, over the slice as it was where it began: a turn that keeps a power, one that does not, and after it.
 module _ (w : List Float) (means codes : ℕ) (code : Float) (out : ℕ) where
@@ -63,13 +63,30 @@ module _ (w : List Float) (means codes : ℕ) (code : Float) (out : ℕ) where
 
 -- ---- what the slice holds then
 
--- the part that the powers fill is the list of them, and what lies below is as it was
-module _ (w v : List Float) (p : ℕ → Bool) (f : ℕ → Float) (out n r : ℕ) (e : v ≡ keep w out p f n) (c : r ≡ countTo p n) (h : out + n ≤ length w) where
-  pub gathered : take r (drop out v) ≡ picked p f n
-  gathered = rw (e, c) (keep-part w out p f n nan h)
+-- they are no more than the blocks
+pub gathered-few : (p : ℕ → Bool) (n r : ℕ) → r ≡ countTo p n → r ≤ n
+gathered-few p n r c = rw c (count-most p n)
 
-  pub gathered-below : (k : ℕ) → k < out → getD v k nan ≡ getD w k nan
-  gathered-below k l = rw e (getD-keep-below w out p f n k nan l)
+-- the part that they fill is the list of them, and what lies below is as it was
+module _ (w v : List Float) (p : ℕ → Bool) (f : ℕ → Float) (out n r : ℕ) (c : r ≡ countTo p n) (e : v ≡ keep w out p f n) (h : out + n ≤ length w) where
+  pub gathered : take (out + r - out) (drop out v) ≡ picked p f n
+  gathered = let size : out + r - out ≡ countTo p n = omega arith in rw (e, size) (keep-part w out p f n nan h)
+
+  pub gathered-below : take out v ≡ take out w
+  gathered-below =
+      take-same v w out (rw e (length-keep w out p f n)) (omega arith) (λ k l. rw e (getD-keep-below w out p f n k nan l))
+
+  pub level-is : (x : Percentile) (q : Float) → x ≡ percentileOf (take (out + r - out) (drop out v)) q
+      → (x ≡ percentileOf (picked p f n) q) × (r ≡ length (picked p f n)) × (take out v ≡ take out w)
+  level-is x q i = (i ∙ ap (λ l. percentileOf l q) gathered, c ∙ sym (length-picked p f n), gathered-below)
+
+-- the powers in two slices that agree up to `out`
+pub powers-same : (v w : List Float) (means codes nb : ℕ) (c : BlockClass) (out : ℕ)
+    → take out v ≡ take out w → 2 * (means + nb) ≤ out → codes + nb ≤ out → powersIn v means codes nb c ≡ powersIn w means codes nb c
+powers-same v w means codes nb c out e h g =
+    picked-cong (classIn v codes c) (classIn w codes c) (powerIn v means) (powerIn w means) nb
+    (λ b l. ap (λ x. eq x (codeOf c)) (take-at v w out e (codes + b) (omega arith)))
+    (λ b l t. ap cNormSqr (zAt-below v w out e (means + b) (omega arith)))
 
 -- the classes and the powers in a prepared slice are those of the rows that it was prepared from
 pub class-prepared : (w : List Float) (z : ℕ → Complex) (class : ℕ → BlockClass) (nb : ℕ) (c : BlockClass) (b : ℕ)
@@ -82,3 +99,13 @@ powers-prepared w z class nb c p =
     picked-cong (classIn w (2 * nb) c) (λ b. isClass c (class b)) (powerIn w 0) (power z) nb
     (λ b h. class-prepared w z class nb c b p h)
     (λ b h t. let here : 0 + b ≡ b = omega arith in ap cNormSqr (rw here (p .mean b h)))
+
+-- a slice that was prepared stays so while its means and classes stay
+pub prepared-kept : (w v : List Float) (z : ℕ → Complex) (class : ℕ → BlockClass) (nb : ℕ)
+    → Prepared w z class nb → take (3 * nb) v ≡ take (3 * nb) w → length v ≡ length w → Prepared v z class nb
+prepared-kept w v z class nb p e l =
+    record {
+      mean = λ b h. zAt-below v w (3 * nb) e b (omega arith) ∙ p .mean b h;
+      class = λ b h. take-at v w (3 * nb) e (2 * nb + b) (omega arith) ∙ p .class b h;
+      room = rw l (p .room);
+    }

@@ -1,9 +1,16 @@
 -- Laws on the measures, by subject.
 
+-- Parts     slices that agree in part: `take-same`, `take-at`, `take-less`, `zAt-same`, `zAt-below`; a part that was
+--           lent and is back: `put-at`
 -- Gathered  the loop that gathers: `gather-yes`, `gather-no`, `gather-done`; what the slice holds then: `gathered`,
---           `gathered-below`; in a prepared slice: `class-prepared`, `powers-prepared`
+--           `gathered-below`, `level-is`, `powers-same`; a prepared slice: `class-prepared`, `powers-prepared`,
+--           `prepared-kept`
+-- Taken     fits taken off the means, by samples, by blocks, and one after the other: `taken-turn`, `turned-turn`,
+--           `fits-turn`, `lessened`
 -- Ratios    the ways out of `ratio_db` and `floored_at`
--- Taken     the loops that take fits off the means
+-- Figures   the residual check of a prepared slice: `residual-is`, `residual-prepared`
+pub mod Parts
 pub mod Gathered
-pub mod Ratios
 pub mod Taken
+pub mod Ratios
+pub mod Figures

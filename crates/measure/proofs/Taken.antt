@@ -7,19 +7,25 @@ use native.Mathlib.Omega.{arith}
 use mathlib.Core.Path.{_≡_, refl, sym, ap, _∙_}
 use mathlib.Core.Logic.{⊎-elim}
 use mathlib.Core.List.{List, [], _∷_, _++_}
-use lib.ListN.{length}
-use lib.Ieee.{Float}
+use lib.ListN.{length, getD, take, drop, length-take, length-drop}
+use lib.Seq.{getD-take, getD-drop}
+use borrow.Rule.Slice.PartMut.{midOf, putMid, take-put}
+use lib.Ieee.{Float, nan}
 use Rattle.float.specs.Ops.{of}
 use Rattle.complex.specs.declared.value.Complex.{Complex}
 use Rattle.complex.specs.Value.{cSub, cDiv}
 use Rattle.complex.specs.Rows.{zAt, zSet}
 use Rattle.complex.proofs.RowLaws.{zAt-zSet-same, zAt-zSet-other}
 use Rattle.lists.specs.Firsts.{firsts}
+use Rattle.lists.specs.Fill.{fill}
+use Rattle.lists.proofs.Fill.{length-fill, getD-fill, getD-fill-below}
 use Rattle.fits.specs.List.{fitAt, fitsIn}
 use Rattle.fits.specs.declared.fit.ElementFit.{ElementFit}
 use Rattle.synth.specs.declared.span.Span.{Span}
 use Rattle.synth.specs.Span.{spanOf}
 use Rattle.synth.specs.Baseband.{synthAt}
+use Rattle.measure.proofs.Parts.{zAt-same, take-same, put-at}
+use Rattle.measure.specs.Inner.{Lessened}
 use Rattle.measure.specs.Left.{takenFrom, lessSpan, lessFit, lessFits}
 
 -- ---- the samples of a block: before the loop, a turn of it, and after it
@@ -124,3 +130,33 @@ module _ (fs : Float) (len nb : ℕ) where
 
     pub fits-done : (n k : ℕ) (z : Complex) → z ≡ lessFits fs len nb (fitsIn l k) b first → k ≤ n → n ≤ k → z ≡ lessFits fs len nb (fitsIn l n) b first
     fits-done n k z p h g = let all : k ≡ n = omega arith in rw all at p
+
+-- ---- the means copied, and the copy lent
+module _ (w v ys : List Float) (nb : ℕ) (e : v ≡ fill w (4 * nb) (λ i. getD w i nan) (2 * nb)) (room : 6 * nb ≤ length w) where
+  long : length v ≡ length w
+  long = rw e (length-fill w (4 * nb) (λ i. getD w i nan) (2 * nb))
+
+  copied : (i : ℕ) → i < 2 * nb → getD (midOf (4 * nb) (6 * nb - 4 * nb) v) i nan ≡ getD w i nan
+  copied i h =
+      getD-take (6 * nb - 4 * nb) (drop (4 * nb) v) i nan (omega arith) ∙ getD-drop (4 * nb) v i nan
+      ∙ rw e (getD-fill w (4 * nb) (λ j. getD w j nan) (2 * nb) i nan h (omega arith))
+
+  pub lessened : (fs : Float) (len : ℕ) (fits : List ElementFit) → length ys ≡ length (midOf (4 * nb) (6 * nb - 4 * nb) v)
+      → ((b : ℕ) → b < nb → zAt ys b ≡ lessFits fs len nb fits b (zAt (midOf (4 * nb) (6 * nb - 4 * nb) v) b))
+      → Lessened w (putMid (4 * nb) (6 * nb - 4 * nb) v ys) (λ b. lessFits fs len nb fits b (zAt w b)) nb
+  lessened fs len fits size each =
+      record {
+        kept =
+            take-put (4 * nb) (6 * nb - 4 * nb) v ys (omega (arith, long))
+            ∙ take-same v w (4 * nb) long (omega arith) (λ k l. rw e (getD-fill-below w (4 * nb) (λ i. getD w i nan) (2 * nb) k nan l));
+        mean = λ b h. zAt-put b h ∙ each b h ∙ ap (lessFits fs len nb fits b) (zAt-same (midOf (4 * nb) (6 * nb - 4 * nb) v) w b (λ i l. copied i (omega arith)));
+      }
+    where
+      many : length ys ≡ 2 * nb
+      many = size ∙ simp (length-take, length-drop) (omega (arith, long))
+
+      zAt-put : (b : ℕ) → b < nb → zAt (putMid (4 * nb) (6 * nb - 4 * nb) v ys) (2 * nb + b) ≡ zAt ys b
+      zAt-put b h =
+          let re : 2 * (2 * nb + b) ≡ 4 * nb + 2 * b = omega arith in
+          let im : 2 * (2 * nb + b) + 1 ≡ 4 * nb + (2 * b + 1) = omega arith in
+          rw (im, re, put-at (4 * nb) (6 * nb - 4 * nb) v ys (2 * b) (omega (arith, long)) (omega (arith, many)), put-at (4 * nb) (6 * nb - 4 * nb) v ys (2 * b + 1) (omega (arith, long)) (omega (arith, many)))

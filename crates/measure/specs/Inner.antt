@@ -3,7 +3,7 @@ use Prim.Native.Nat.{ℕ, _+_, _*_, _≤_, _<_}
 use mathlib.Core.Path.{_≡_}
 use mathlib.Core.Bool.{Bool}
 use mathlib.Core.List.{List}
-use lib.ListN.{length, getD}
+use lib.ListN.{length, getD, take}
 use lib.Ieee.{Float, nan, eq}
 use Rattle.lists.specs.Those.{picked}
 use Rattle.complex.specs.declared.value.Complex.{Complex}
@@ -13,10 +13,11 @@ use Rattle.classes.specs.declared.class.BlockClass.{BlockClass}
 use Rattle.classes.specs.declared.class.BlockClass.the-variants.{Edge, Interior, Gap}
 use Rattle.classes.specs.Class.{codeOf}
 use Rattle.fits.specs.declared.fit.ElementFit.{ElementFit}
+use Rattle.measure.specs.declared.powers.Level.{Level}
 use Rattle.measure.specs.declared.residual.ResidualCheck.{ResidualCheck}
 use Rattle.measure.specs.Powers.{power}
 use Rattle.measure.specs.Left.{residualMean}
-use Rattle.measure.specs.Residual.{figuresOf}
+use Rattle.measure.specs.Residual.{ratioDb, floored, figuresOf}
 
 -- The work slice of nb blocks: first the blocks' means, as complex numbers, then the number of each block's class;
 -- what follows is free for a measure.
@@ -36,11 +37,28 @@ classIn w at c = hasCode w at (codeOf c)
 abbrev pub powerIn : List Float → ℕ → ℕ → Float
 powerIn w at b = cNormSqr (zAt w (at + b))
 
--- the residual check of what a prepared slice holds
-abbrev pub powersIn : List Float → ℕ → BlockClass → (ℕ → Complex) → List Float
-powersIn w nb c z = picked (classIn w (2 * nb) c) (power z) nb
+-- the powers of the blocks of class c in such a slice
+abbrev pub powersIn : List Float → ℕ → ℕ → ℕ → BlockClass → List Float
+powersIn w means codes nb c = picked (classIn w codes c) (powerIn w means) nb
 
+-- what is left of the means stands from complex number 2 * nb on, and all before it is as it was
+pub record Lessened (w v : List Float) (left : ℕ → Complex) (nb : ℕ) : Type 0 where
+  pub kept : take (4 * nb) v ≡ take (4 * nb) w
+  pub mean : (b : ℕ) → b < nb → zAt v (2 * nb + b) ≡ left b
+
+-- the figures of a level for each class
+abbrev pub figuresFrom : Level → Level → Level → ResidualCheck
+figuresFrom edge interior gap =
+    record {
+      «edge_over_neighbour_db» = ratioDb (edge .value) (floored (gap .value));
+      «interior_over_neighbour_db» = ratioDb (interior .value) (floored (gap .value));
+      «edge_blocks» = edge .count;
+      «interior_blocks» = interior .count;
+      «gap_blocks» = gap .count;
+    }
+
+-- the residual check of what a prepared slice holds
 unfoldable pub residualIn : List Float → ℕ → Float → List ElementFit → ResidualCheck
 residualIn w nb fs fits =
-    let left = residualMean fs nb fits (zAt w) in
-    figuresOf (powersIn w nb Edge left) (powersIn w nb Interior left) (powersIn w nb Gap left)
+    let left = power (residualMean fs nb fits (zAt w)) in
+    figuresOf (picked (classIn w (2 * nb) Edge) left nb) (picked (classIn w (2 * nb) Interior) left nb) (picked (classIn w (2 * nb) Gap) left nb)

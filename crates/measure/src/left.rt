@@ -8,11 +8,14 @@ use synth::fit_span;
 use synth::synth_baseband;
 ghost use mathlib.Core.Path.{_≡_};
 ghost use Prim.Native.Nat.{ℕ, _+_, _*_, _≤_, _<_, min, max};
-ghost use lib.ListN.{length};
+ghost use lib.ListN.{length, getD};
+ghost use lib.Ieee.{nan};
+ghost use Rattle.lists.specs.Fill.{fill};
 ghost use Rattle.trig.specs.Sine.{sineTable};
 ghost use Rattle.complex.specs.Rows.{zAt};
 ghost use Rattle.fits.specs.List.{fitsIn};
-ghost use Rattle.measure.specs.Left.{takenFrom, lessSpan, lessFit, lessFits};
+ghost use Rattle.measure.specs.Left.{takenFrom, lessSpan, lessFit, lessFits, residualMean};
+ghost use Rattle.measure.specs.Inner.{Lessened};
 
 // A fit's synthesis at n samples taken off a mean of len.
 fn taken_from(
@@ -96,7 +99,7 @@ fn less_fit(row: &mut [f64], nb: usize, f: ElementFit, fs: f64, len: usize, sine
 }
 
 // All fits of a list taken off, in order.
-pub fn less_fits(
+fn less_fits(
     row: &mut [f64],
     nb: usize,
     fits: &[f64],
@@ -116,4 +119,38 @@ pub fn less_fits(
         let f = fit_at(fits, k);
         less_fit(row, nb, f, fs, len, sine);
     }
+}
+
+// The nb means at the start of the work slice, copied to the numbers from 4 * nb on.
+fn copy_means(work: &mut [f64], nb: usize)
+    requires { ⌜ 6 * nb ≤ length (now work) ⌝ }
+    ensures { λ _. ⌜ now (work .exit) ≡ fill (now (work .entry)) (4 * nb) (λ i. getD (now (work .entry)) i nan) (2 * nb) ⌝ }
+{
+    let o = 4 * nb;
+    for i in 0..2 * nb {
+        work[o + i] = work[i];
+    }
+}
+
+// What is left of the nb means at the start of the work slice, as complex numbers from number 2 * nb on.
+pub fn lessen(
+    work: &mut [f64],
+    nb: usize,
+    fits: &[f64],
+    count: usize,
+    fs: f64,
+    len: usize,
+    sine: &[u64; 1025],
+)
+    requires { ⌜ now sine ≡ sineTable ⌝ }
+    requires { ⌜ 0 < len ⌝ }
+    requires { ⌜ nb * len ≤ 1048576 ⌝ }
+    requires { ⌜ 6 * nb ≤ length (now work) ⌝ }
+    requires { ⌜ 8 * count ≤ length (now fits) ⌝ }
+    ensures { λ _. ⌜ Lessened (now (work .entry)) (now (work .exit)) (λ b. lessFits fs len nb (fitsIn (now (fits .entry)) count) b (zAt (now (work .entry)) b)) nb ⌝ }
+{
+    copy_means(work, nb);
+    let from = 4 * nb;
+    let past = 6 * nb;
+    less_fits(&mut work[from..past], nb, fits, count, fs, len, sine);
 }

@@ -1,10 +1,21 @@
 // The residual check: what taking an estimate off would leave of the strong sender, over the level of its neighbour.
+use crate::left::lessen;
+use crate::powers::Level;
+use crate::powers::level_of;
+use classes::BlockClass;
 use constants::CLEAN_EDGE_OVER_NEIGHBOUR_DB;
 use constants::CLEAN_INTERIOR_OVER_NEIGHBOUR_DB;
 use constants::MIN_POSITIVE;
+use constants::NEIGHBOUR_PERCENTILE;
 use rank::Percentile;
 ghost use mathlib.Core.Path.{_≡_};
+ghost use Prim.Native.Nat.{_*_, _≤_};
+ghost use lib.ListN.{length, take};
+ghost use Rattle.trig.specs.Sine.{sineTable};
+ghost use Rattle.row.specs.Window.{Rate, windowOf};
+ghost use Rattle.fits.specs.List.{fitsIn};
 ghost use Rattle.measure.specs.Residual.{ratioDb, floored, cleanOf};
+ghost use Rattle.measure.specs.Inner.{figuresFrom, residualIn};
 
 // Rust: ResidualCheck.
 pub struct ResidualCheck {
@@ -51,4 +62,48 @@ fn floored_at(level: Percentile) -> Percentile
         return Percentile::Nothing;
     };
     Percentile::Value(float::max(v, MIN_POSITIVE))
+}
+
+// Rust: the ResidualCheck at the end of residual_check.
+fn figures(edge: Level, interior: Level, gap: Level) -> ResidualCheck
+    ensures { λ r. ⌜ r ≡ figuresFrom edge interior gap ⌝ }
+{
+    let e = edge.value;
+    let i = interior.value;
+    let g = gap.value;
+    let neighbour = floored_at(g);
+    ResidualCheck {
+        edge_over_neighbour_db: ratio_db(e, neighbour),
+        interior_over_neighbour_db: ratio_db(i, neighbour),
+        edge_blocks: edge.count,
+        interior_blocks: interior.count,
+        gap_blocks: gap.count,
+    }
+}
+
+// Rust: residual_check, past the block means and their classes, which stand in a prepared work slice and stay there.
+pub fn residual(
+    work: &mut [f64],
+    nb: usize,
+    fs: f64,
+    fits: &[f64],
+    count: usize,
+    sine: &[u64; 1025],
+) -> ResidualCheck
+    requires { ⌜ now sine ≡ sineTable ⌝ }
+    requires { ⌜ Rate fs ⌝ }
+    requires { ⌜ nb * windowOf fs ≤ 1048576 ⌝ }
+    requires { ⌜ 7 * nb ≤ length (now work) ⌝ }
+    requires { ⌜ 8 * count ≤ length (now fits) ⌝ }
+    ensures { λ r. ⌜ (r ≡ residualIn (now (work .entry)) nb fs (fitsIn (now (fits .entry)) count))
+        × (take (3 * nb) (now (work .exit)) ≡ take (3 * nb) (now (work .entry))) ⌝ }
+{
+    let len = 8 * row::edge_step(fs);
+    lessen(work, nb, fits, count, fs, len, sine);
+    let at = 2 * nb;
+    let out = 6 * nb;
+    let edge = level_of(work, at, at, nb, BlockClass::Edge, out, 0.5);
+    let interior = level_of(work, at, at, nb, BlockClass::Interior, out, 0.5);
+    let gap = level_of(work, at, at, nb, BlockClass::Gap, out, NEIGHBOUR_PERCENTILE);
+    figures(edge, interior, gap)
 }
