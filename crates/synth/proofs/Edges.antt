@@ -23,4 +23,4 @@ span-edge f s e = rw (s, e)
 
 -- Ones at 100..199 of 300: span 69 up to, not including, 230.
 pub edges : map (spanOf (of 3000) 300) (fitsFound (onesOf 100 199 300) (of 3000) (of 0)) ≡ (spanned ∷ [])
-edges = rw (fitted .0) (ap (λ s. s ∷ []) (span-edge _ refl refl))
+edges = rw (fitted .ones-100-199 .0) (ap (λ s. s ∷ []) (span-edge _ refl refl))
