@@ -10,9 +10,28 @@
 --           `fits-turn`, `lessened`
 -- Ratios    the ways out of `ratio_db` and `floored_at`
 -- Figures   the residual check of a prepared slice: `residual-is`, `residual-prepared`
+-- Counted   a loop that counts: `count-none`, `count-yes`, `count-no`, `count-done`; `count-few`, `count-there`
+-- References  the medians, and the rows of powers to both sides of the carrier: `both-held`, `reference-is`
+-- Paired    gap blocks above a level and pairs of them: the ways out of each test, and the loops over the blocks
+-- Offsets   the power at an offset, the strongest of three: `strongest-is`, `offset-none`, `offset-some`
+-- Same      what the evidence depends on: `reference-same`, `with-same`, `evidence-same`
+-- Absence   the offset is absent exactly when there is no pair: `absent-exactly`, `present-exactly`
+-- Pushed    the Rust's loop over `gap_idx.windows(2)`: `windows-are`, `pushed-are`
+-- ReachEvidence  `evidence-reach`: samples outside the interior and gap blocks do not matter
+-- HypothesisEdges  01's table on hypotheses: `two-signals`, `one-signal`, `unresolved`
 pub mod Parts
 pub mod Prepared
 pub mod Gathered
 pub mod Taken
 pub mod Ratios
 pub mod Figures
+pub mod Counted
+pub mod References
+pub mod Paired
+pub mod Offsets
+pub mod Same
+pub mod Evidences
+pub mod Absence
+pub mod ReachEvidence
+pub mod Pushed
+pub mod HypothesisEdges

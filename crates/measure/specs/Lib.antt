@@ -3,3 +3,9 @@ pub mod Powers
 pub mod Left
 pub mod Residual
 pub mod Inner
+pub mod Reference
+pub mod Pairs
+pub mod Pushed
+pub mod Offset
+pub mod Evidence
+pub mod Hypothesis

@@ -1,8 +1,18 @@
-// What a recording's blocks show once a strong sender's estimate is known: cancel.rs's residual_check.
+// What a recording's blocks show once a strong sender's estimate is known: cancel.rs's residual_check and
+// second_carrier_evidence.
+pub mod evidence;
+pub mod hypothesis;
 pub mod left;
+pub mod offset;
+pub mod pairs;
 pub mod powers;
 pub mod prepare;
+pub mod reference;
 pub mod residual;
 
+pub use evidence::SecondCarrierEvidence;
+pub use hypothesis::Hypothesis;
+pub use hypothesis::classify;
+pub use offset::Offset;
 pub use residual::ResidualCheck;
 pub use residual::residual_check;

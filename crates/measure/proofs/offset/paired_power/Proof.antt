@@ -1,0 +1,64 @@
+-- The invariant: the sum so far is that of the blocks in pairs among the first b.
+use Prim.Native.Nat.{_*_, _≤_, _-_}
+use native.Mathlib.Omega.{arith}
+use mathlib.Core.Path.{_≡_, ap, _∙_}
+use mathlib.Core.Logic.{⊎-elim}
+use borrow.Author.Needs.{needs}
+use Rattle.float.specs.Ops.{minus-zero}
+use Rattle.lists.specs.Sums.{sumOver}
+use Rattle.lists.specs.Those.{picked}
+use Rattle.complex.specs.Value.{cNormSqr}
+use Rattle.complex.specs.Rows.{zAt}
+use Rattle.row.specs.Blocks.{blockMean}
+use Rattle.row.proofs.Means.{block-fits}
+use Rattle.classes.specs.declared.class.BlockClass.the-variants.{Gap}
+use Rattle.measure.specs.Inner.{classIn}
+use Rattle.measure.specs.Powers.{power}
+use Rattle.measure.specs.Pairs.{above, inPair}
+use Rattle.measure.proofs.Offsets.{over-none, over-yes, over-no, over-done}
+use Rattle.measure.proofs.offset.paired_power.Statement.{statement}
+use Rattle.measure.proofs.offset.paired_power.Tie as tie
+
+abbrev Inv-loop : tie.InvT-loop
+Inv-loop iq cyc len work nb level sine sum₀ b₀ sum b =
+    (b ≤ nb)
+    × (sum ≡ sumOver (power (blockMean iq cyc len)) minus-zero (picked (inPair (above (classIn work (2 * nb) Gap) (zAt work) level) nb) (λ k. k) b))
+
+abbrev μ-loop : tie.MeasureT-loop
+μ-loop iq cyc len work nb level sine sum₀ b₀ sum b = nb - b
+
+loop-holds : tie.Need-loop-holds Inv-loop μ-loop
+loop-holds c = (search needs, over-none _ _)
+
+block-mean-requires : tie.Need-block-mean-requires Inv-loop μ-loop
+block-mean-requires c κs =
+    let at = c .before .before .before in
+    let s = at .before .before .before in
+    (s .pre .0, (s .pre .1 .0, block-fits _ _ _ (omega arith)))
+
+loop-again : tie.Need-loop-again Inv-loop μ-loop
+loop-again c =
+    let asked = c .before in
+    let inv = asked .before .before .loop .inv in (
+      search needs,
+      ⊎-elim (λ w. over-yes _ _ _ _ _ _ _ (inv .1) (asked .in-pair .ensures) (w .0 .taken) (w .2 .ensures ∙ ap cNormSqr (w .1 .ensures)) (w .3))
+          (λ w. over-no _ _ _ _ _ _ (inv .1) (asked .in-pair .ensures) (w .0 .left) (w .1)) (c .if1 .came),
+    )
+
+returns : tie.Need-returns Inv-loop μ-loop
+returns c = over-done _ _ _ _ _ (c .before .loop .inv .1) (omega arith) (omega arith)
+
+pub paired-power-spec : {M : Type 1} → statement M
+paired-power-spec =
+    tie.close
+    (tie.spec
+    Inv-loop
+    μ-loop
+    loop-holds
+    (λ c κs. search needs)
+    block-mean-requires
+    (λ c κs. search needs)
+    (λ c. search needs)
+    (λ c. search needs)
+    loop-again
+    returns)

@@ -1,0 +1,66 @@
+-- The evidence of a second carrier in the gaps of a strong sender (01, part 6: `second_carrier_evidence`).
+-- Definitions only.
+use Prim.Native.Nat.{ℕ}
+use mathlib.Core.Bool.{Bool, cond}
+use mathlib.Core.List.{List}
+use lib.Dec.{eqb}
+use lib.Ieee.{Float, lt}
+use Rattle.float.specs.Ops.{_⊘_, of, zero}
+use Rattle.complex.specs.declared.value.Complex.{Complex}
+use Rattle.complex.specs.Value.{cNorm}
+use Rattle.row.specs.Window.{windowOf}
+use Rattle.row.specs.Blocks.{blockMean}
+use Rattle.classes.specs.declared.class.BlockClass.{BlockClass}
+use Rattle.classes.specs.declared.class.BlockClass.the-variants.{Gap, Interior}
+use Rattle.classes.specs.Class.{isClass}
+use Rattle.measure.specs.declared.pairs.Gaps.{Gaps}
+use Rattle.measure.specs.declared.pairs.Pairs.{Pairs}
+use Rattle.measure.specs.declared.evidence.SecondCarrierEvidence.{SecondCarrierEvidence}
+use Rattle.measure.specs.Reference.{referenceBy}
+use Rattle.measure.specs.Pairs.{gapsOf, strong, pairsOf, pairBlocks}
+use Rattle.measure.specs.Offset.{offsetFrom}
+
+-- the blocks of a class
+abbrev pub isIn : BlockClass → (ℕ → BlockClass) → ℕ → Bool
+isIn c class b = isClass c (class b)
+
+-- `hot_fraction`: the share of hot blocks among the gap blocks, 0 without any
+unfoldable pub hotFraction : Gaps → Float
+hotFraction g = cond (eqb (g .blocks) 0) zero (of (g .hot) ⊘ of (g .blocks))
+
+-- `coherence`: |Σz| / Σ|z| of the pairs' products, 0 where there is nothing to divide by
+unfoldable pub coherenceOf : Pairs → Float
+coherenceOf p = cond (lt zero (p .size)) (cNorm (p .sum) ⊘ p .size) zero
+
+-- Of nb blocks with the means z at the carrier: `gap` and `interior` tell the blocks of these classes, and `mean c` is
+-- the row of block means at the carrier c.
+module _ (mean : Float → ℕ → Complex) (fs carrier : Float) (gap : ℕ → Bool) where
+  -- the evidence against a reference
+  unfoldable pub evidenceWith : (ℕ → Complex) → ℕ → Float → SecondCarrierEvidence
+  evidenceWith z nb ref =
+      let gaps = gapsOf gap z ref nb in
+      let s = strong gap z ref in
+      let pairs = pairsOf s z nb in
+      record {
+        «gap_blocks» = gaps .blocks;
+        «hot_fraction» = hotFraction gaps;
+        «offset_hz» = offsetFrom mean carrier (fs ⊘ of (windowOf fs)) pairs (pairBlocks s nb);
+        coherence = coherenceOf pairs;
+      }
+
+  -- against the reference that is measured
+  unfoldable pub evidenceBy : (ℕ → Bool) → (ℕ → Complex) → ℕ → SecondCarrierEvidence
+  evidenceBy interior z nb = evidenceWith z nb (referenceBy mean carrier gap interior z nb)
+
+-- of a recording at a rate and a carrier, by the class of each of its blocks
+module _ (iq : List Float) (fs : Float) where
+  -- the block means at a carrier
+  abbrev pub meanAt : Float → ℕ → Complex
+  meanAt carrier = blockMean iq (carrier ⊘ fs) (windowOf fs)
+
+  module _ (carrier : Float) (class : ℕ → BlockClass) (nb : ℕ) where
+    unfoldable pub referenceOf : Float
+    referenceOf = referenceBy meanAt carrier (isIn Gap class) (isIn Interior class) (meanAt carrier) nb
+
+    unfoldable pub evidenceOf : SecondCarrierEvidence
+    evidenceOf = evidenceBy meanAt fs carrier (isIn Gap class) (isIn Interior class) (meanAt carrier) nb

@@ -1,0 +1,100 @@
+// The evidence of a second carrier in the gaps of a strong sender.
+use crate::offset::Offset;
+use crate::offset::find_offset;
+use crate::pairs::Gaps;
+use crate::pairs::Pairs;
+use crate::pairs::count_gaps;
+use crate::pairs::sum_pairs;
+use crate::reference::find_reference;
+use row::edge_step;
+ghost use mathlib.Core.Path.{_≡_};
+ghost use Prim.Native.Nat.{_*_, _≤_};
+ghost use lib.ListN.{length};
+ghost use Rattle.trig.specs.Sine.{sineTable};
+ghost use Rattle.complex.specs.Rows.{zAt};
+ghost use Rattle.row.specs.Samples.{Iq};
+ghost use Rattle.row.specs.Window.{Rate, windowOf, blocks};
+ghost use Rattle.classes.specs.declared.class.BlockClass.the-variants.{Gap, Interior};
+ghost use Rattle.measure.specs.Inner.{classIn};
+ghost use Rattle.measure.specs.Evidence.{hotFraction, coherenceOf, evidenceWith, evidenceBy, meanAt};
+
+// Rust: SecondCarrierEvidence.
+pub struct SecondCarrierEvidence {
+    pub gap_blocks: usize,
+    pub hot_fraction: f64,
+    pub offset_hz: Offset,
+    pub coherence: f64,
+}
+
+// Rust: `hot_fraction` in second_carrier_evidence.
+fn hot_fraction(g: Gaps) -> f64
+    ensures { λ r. ⌜ r ≡ hotFraction g ⌝ }
+{
+    if g.blocks == 0 {
+        return 0.0;
+    }
+    float::from_whole(g.hot) / float::from_whole(g.blocks)
+}
+
+// Rust: `coherence` in second_carrier_evidence.
+fn coherence(p: Pairs) -> f64
+    ensures { λ r. ⌜ r ≡ coherenceOf p ⌝ }
+{
+    if p.size > 0.0 {
+        return p.sum.norm() / p.size;
+    }
+    0.0
+}
+
+// The evidence against a reference.
+fn evidence_with(
+    iq: &[f32],
+    fs: f64,
+    carrier: f64,
+    len: usize,
+    work: &[f64],
+    nb: usize,
+    reference: f64,
+    sine: &[u64; 1025],
+) -> SecondCarrierEvidence
+    requires { ⌜ Iq (now iq) ⌝ }
+    requires { ⌜ now sine ≡ sineTable ⌝ }
+    requires { ⌜ len ≡ windowOf fs ⌝ }
+    requires { ⌜ nb ≡ blocks (now iq) len ⌝ }
+    requires { ⌜ 3 * nb ≤ length (now work) ⌝ }
+    ensures { λ r. ⌜ r ≡ evidenceWith (meanAt (now (iq .entry)) fs) fs carrier (classIn (now (work .entry)) (2 * nb) Gap)
+        (zAt (now (work .entry))) nb reference ⌝ }
+{
+    let gaps = count_gaps(work, nb, reference);
+    let pairs = sum_pairs(work, nb, reference);
+    let offset_hz = find_offset(iq, fs, carrier, len, work, nb, reference, pairs, sine);
+    SecondCarrierEvidence {
+        gap_blocks: gaps.blocks,
+        hot_fraction: hot_fraction(gaps),
+        offset_hz,
+        coherence: coherence(pairs),
+    }
+}
+
+// Rust: second_carrier_evidence, which computes the means and the classes itself. Here the work slice holds them: the
+// nb means at the carrier as complex numbers, then the numbers of the classes; what follows is written.
+pub fn evidence(
+    iq: &[f32],
+    fs: f64,
+    carrier: f64,
+    work: &mut [f64],
+    nb: usize,
+    sine: &[u64; 1025],
+) -> SecondCarrierEvidence
+    requires { ⌜ Iq (now iq) ⌝ }
+    requires { ⌜ Rate fs ⌝ }
+    requires { ⌜ now sine ≡ sineTable ⌝ }
+    requires { ⌜ nb ≡ blocks (now iq) (windowOf fs) ⌝ }
+    requires { ⌜ 5 * nb ≤ length (now work) ⌝ }
+    ensures { λ r. ⌜ r ≡ evidenceBy (meanAt (now (iq .entry)) fs) fs carrier (classIn (now (work .entry)) (2 * nb) Gap)
+        (classIn (now (work .entry)) (2 * nb) Interior) (zAt (now (work .entry))) nb ⌝ }
+{
+    let len = 8 * edge_step(fs);
+    let reference = find_reference(iq, fs, carrier, len, work, nb, sine);
+    evidence_with(iq, fs, carrier, len, work, nb, reference, sine)
+}
