@@ -18,7 +18,7 @@ pub enum Interior {
 fn min_len(fs: f64) -> f64
     ensures { λ r. ⌜ r ≡ of (minLen fs) ⌝ }
 {
-    std::num::nearest_u64_to_f64(float::to_whole(float::ceil(MIN_INTERIOR_S * fs)) as u64)
+    float::from_whole(float::to_whole(float::ceil(MIN_INTERIOR_S * fs)))
 }
 
 // Rust: `block` in `fit_elements`.
