@@ -48,12 +48,7 @@ pub zFill-none : (l : List Float) (at : ℕ) (f : ℕ → Complex) → l ≡ zFi
 unfolding zFill
 zFill-none l at f = refl
 
--- A loop that stores f n at number at + n, and one that stores it at number n.
-pub zFill-turn : (l : List Float) (at : ℕ) (f : ℕ → Complex) (n : ℕ) (cur new : List Float) (z : Complex)
-    → cur ≡ zFill l at f n → z ≡ f n → new ≡ zSet cur (at + n) z → new ≡ zFill l at f (n + 1)
-unfolding zFill
-zFill-turn l at f n cur new z p e h = rw (add-one, h, p, e)
-
+-- A loop that stores f n at number n.
 pub zFill-turn0 : (l : List Float) (f : ℕ → Complex) (n : ℕ) (cur new : List Float) (z : Complex)
     → cur ≡ zFill l 0 f n → z ≡ f n → new ≡ zSet cur n z → new ≡ zFill l 0 f (n + 1)
 unfolding zFill

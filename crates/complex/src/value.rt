@@ -75,7 +75,7 @@ impl Complex {
     pub fn norm(self) -> f64
         ensures { λ r. ⌜ r ≡ cNorm self ⌝ }
     {
-        float::sqrt(self.re * self.re + self.im * self.im)
+        float::sqrt(self.norm_sqr())
     }
 
     pub fn arg(self) -> f64

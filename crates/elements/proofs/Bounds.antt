@@ -55,10 +55,10 @@ centre-bounded a len h =
     bounded-add (bounded-whole a (omega arith))
     (bounded-div (bounded-sub (bounded-whole len (omega arith)) bounded-one (omega arith) (lit≤ tt)) beyond-two (omega arith) (lit≤ tt)) (omega arith) (lit≤ tt)
 
-pub crossed-bounded : (row : ℕ → Float) (thr : Float) (step i : ℕ) → step ≤ 64 → i ≤ 1048576 → Amount (row (i - 1)) → Amount (row i) → Amount thr → Crossed row thr i → Bounded 0 (2 ^ 27) (crossedAt row thr step i)
+pub crossed-bounded : (row : ℕ → Float) (thr : Float) (step i : ℕ) → step ≤ 64 → i ≤ 2 ^ 20 → Amount (row (i - 1)) → Amount (row i) → Amount thr → Crossed row thr i → Bounded 0 (2 ^ 27) (crossedAt row thr step i)
 unfolding crossedAt
 crossed-bounded row thr step i s h p q t c =
-    let far : (i - 1) * step ≤ 1048576 * 64 = mul-le-mul {n₁ = i - 1} {n₂ = 1048576} (omega arith) s in
+    let far : (i - 1) * step ≤ 2 ^ 20 * 64 = mul-le-mul {n₁ = i - 1} {n₂ = 2 ^ 20} (omega arith) s in
     let share : Bounded 0 1 ((thr ⊖ row (i - 1)) ⊘ (row i ⊖ row (i - 1))) = share-bounded (row (i - 1)) (row i) thr p q t (crosses row thr i c) in
     bounded-more
     (bounded-add (centre-bounded ((i - 1) * step) (8 * step) (omega arith)) (bounded-mul share (bounded-whole step (omega arith)) (omega arith) (lit≤ tt)) (omega arith) (lit≤ tt))
@@ -73,7 +73,7 @@ pub record Plain (e : KeyedElement) : Type 0 where
   pub up-bounded : Bounded 0 (2 ^ 20) (e .up)
   pub down-bounded : Bounded 0 (2 ^ 20) (e .down)
 
-pub element-bounded : (row : ℕ → Float) (thr : Float) (step j : ℕ) (k : KeyDown) → step ≤ 64 → j ≤ 1048576 → ((i : ℕ) → i ≤ j → Amount (row i)) → Amount thr → IsKeyDown row thr j k → Plain (elementOf row thr step k)
+pub element-bounded : (row : ℕ → Float) (thr : Float) (step j : ℕ) (k : KeyDown) → step ≤ 64 → j ≤ 2 ^ 20 → ((i : ℕ) → i ≤ j → Amount (row i)) → Amount thr → IsKeyDown row thr j k → Plain (elementOf row thr step k)
 unfolding elementOf
 element-bounded row thr step j k s h each t a =
     let u : k .up ≤ j = omega (arith, a .later, a .within) in
@@ -87,7 +87,7 @@ element-bounded row thr step j k s h each t a =
 
 -- ---- all of them
 
-pub elements-bounded : (row : ℕ → Float) (thr : Float) (step : ℕ) (fs : Float) (j : ℕ) → step ≤ 64 → j ≤ 1048576 → ((i : ℕ) → i ≤ j → Amount (row i)) → Amount thr
+pub elements-bounded : (row : ℕ → Float) (thr : Float) (step : ℕ) (fs : Float) (j : ℕ) → step ≤ 64 → j ≤ 2 ^ 20 → ((i : ℕ) → i ≤ j → Amount (row i)) → Amount thr
     → (e : KeyedElement) → List·Memᴰ e (elementsTo row thr step fs j) → Plain e
 unfolding elementsTo elementsOf
 elements-bounded row thr step fs j s h each t e m =
@@ -154,7 +154,7 @@ module _ (iq : List Float) (fs carrier : Float) (s : Singles iq) (q : Iq iq) whe
     where
       go : (p : Threshold) → thresholdOf iq fs carrier ≡ p → List·Memᴰ e (elementsAt (rowOf iq fs carrier) (rowLength iq fs - 1) (stepOf fs) fs p) → Plain e
       go (At thr) t m =
-          let few : blocks iq (stepOf fs) ≤ 1048576 = blocks-short iq (stepOf fs) (q .short) in
+          let few : blocks iq (stepOf fs) ≤ 2 ^ 20 = blocks-short iq (stepOf fs) (q .short) in
           elements-bounded (rowOf iq fs carrier) thr (stepOf fs) fs (rowLength iq fs - 1) (step-high fs r) (omega arith)
           (last-amount thr t) (threshold-amount thr t) e m
       go Absent t m = absurd (List·Memᴰ·not-nil m)

@@ -1,5 +1,5 @@
 -- The rows of 01's edge table that speak of elements: fs 3,000, carrier 0, samples 0 or (1, 0). Assumes nothing.
-use Prim.Native.Nat.{ℕ, zero, suc, _+_, _-_, _/_, _≤_, _<_}
+use Prim.Native.Nat.{ℕ, zero, suc, _+_, _-_, _/_, _^_, _≤_, _<_}
 use native.Mathlib.Nat.{div-one}
 use native.Mathlib.Omega.{arith}
 use mathlib.Core.Path.{_≡_, refl, sym, ap, _∙_, subst}
@@ -58,7 +58,7 @@ module _ (a e : ℕ) where
   few-ones : (i : ℕ) → inEight i ≤ 8
   few-ones i = omega arith
 
-module _ (a e n : ℕ) (few : n ≤ 1048576) where
+module _ (a e n : ℕ) (few : n ≤ 2 ^ 20) where
   blocks-ones : length (onesOf a e n) / 2 / stepOf (of 3000) ≡ n
   blocks-ones = rw (step-3000, length-ones a e n, div-one) (omega arith)
 
@@ -131,7 +131,7 @@ module _ (row : ℕ → Float) (fs : Float) {last last' step step' : ℕ} {p p' 
   elements-by = rw (l, s, t)
 
 -- ---- what is found in it is what the row of eighths has
-module _ (a e n : ℕ) (few : n ≤ 1048576) (some : 8 ≤ n) (enough : countTo (λ i. ltb (inEight a e i) 8) (n - 7) ≤ rankOf (n - 7) EDGE_PERCENTILE) where
+module _ (a e n : ℕ) (few : n ≤ 2 ^ 20) (some : 8 ≤ n) (enough : countTo (λ i. ltb (inEight a e i) 8) (n - 7) ≤ rankOf (n - 7) EDGE_PERCENTILE) where
   abbrev iq : List Float
   iq = onesOf a e n
 
@@ -171,7 +171,7 @@ abbrev pub RowFinds : (a e n : ℕ) → Found → List KeyedElement → Type 0
 RowFinds a e n found elements =
     (foundTo (eighths a e) half 1 (of 3000) (n - 7 - 1) ≡ found) × (elementsTo (eighths a e) half 1 (of 3000) (n - 7 - 1) ≡ elements)
 
-pub finds : (a e n : ℕ) (found : Found) (elements : List KeyedElement) → n ≤ 1048576 → 8 ≤ n
+pub finds : (a e n : ℕ) (found : Found) (elements : List KeyedElement) → n ≤ 2 ^ 20 → 8 ≤ n
     → countTo (λ i. ltb (inEight a e i) 8) (n - 7) ≤ rankOf (n - 7) EDGE_PERCENTILE → RowFinds a e n found elements → Finds a e n found elements
 finds a e n found elements few some enough row = (found-ones a e n few some enough ∙ row .0, elements-ones a e n few some enough ∙ row .1)
 

@@ -1,6 +1,6 @@
 -- Recordings of samples 0 and (1, 0) at carrier 0. Nothing is turned there, so that they keep their numbers through
 -- `derotated`, and at a step of 1 through `block_means` and the running sum: `derot-ones`, `row-ones`. Assumes nothing.
-use Prim.Native.Nat.{ℕ, zero, suc, _+_, _-_, _*_, _≤_, _<_, min}
+use Prim.Native.Nat.{ℕ, zero, suc, _+_, _-_, _*_, _^_, _≤_, _<_, min}
 use native.Mathlib.Nat.{eq-or-lt-of-le, le-of-suc-le-suc, not-suc-le-zero}
 use native.Mathlib.Omega.{arith}
 use mathlib.Core.Path.{_≡_, refl, sym, ap, _∙_}
@@ -99,7 +99,7 @@ nought-real = refl
 
 -- ---- a recording of n samples, b k at k with b k ≤ 1, of which T k are ones below k: at a step of 1 its row is the
 -- number of ones in each eight, over 8
-module _ (iq : List Float) (n : ℕ) (b T : ℕ → ℕ) (few : n ≤ 1048576) (bit : (k : ℕ) → b k ≤ 1) (start : T 0 ≡ 0) (next : (k : ℕ) → T (suc k) ≡ T k + b k)
+module _ (iq : List Float) (n : ℕ) (b T : ℕ → ℕ) (few : n ≤ 2 ^ 20) (bit : (k : ℕ) → b k ≤ 1) (start : T 0 ≡ 0) (next : (k : ℕ) → T (suc k) ≡ T k + b k)
     (is : (k : ℕ) → k < n → zAt iq k ≡ real (b k)) where
   derot-real : (k : ℕ) → k < n → derot iq (of 0) k ≡ real (b k)
   unfolding derot
@@ -209,7 +209,7 @@ module _ (a e : ℕ) where
       (eq-or-lt-of-le (le-of-suc-le-suc h))
 
   -- ---- derotated by nothing, and its row at a step of 1
-  module _ (n : ℕ) (few : n ≤ 1048576) where
+  module _ (n : ℕ) (few : n ≤ 2 ^ 20) where
     pub derot-ones : (k : ℕ) → k < n → derot (onesOf a e n) (of 0) k ≡ real (bitAt k)
     derot-ones = derot-real (onesOf a e n) n bitAt onesBelow few bit-small (omega arith) ones-next (sample-ones n)
 

@@ -1,5 +1,5 @@
 -- The ways out of `find_elements`, and what holds where none was taken. Assumes nothing.
-use Prim.Native.Nat.{ℕ, _+_, _-_, _*_, _/_, _≤_, _<_}
+use Prim.Native.Nat.{ℕ, _+_, _-_, _*_, _/_, _^_, _≤_, _<_}
 use native.Mathlib.Nat.{div-le-self}
 use native.Mathlib.Omega.{arith}
 use mathlib.Core.Path.{_≡_, ap, _∙_}
@@ -37,7 +37,7 @@ pub record Entered (iq : List Float) (fs : Float) (step : ℕ) : Type 0 where
   pub least : 1 ≤ step
   pub most : step ≤ 64
   pub eight : 8 ≤ length iq / 2 / step
-  pub few : length iq / 2 / step ≤ 1048576
+  pub few : length iq / 2 / step ≤ 2 ^ 20
 
 pub entered : (iq : List Float) (fs : Float) (step : ℕ) → Iq iq → Rate fs → step ≡ stepOf fs → 8 * step ≤ length iq / 2 → Entered iq fs step
 entered iq fs step i r e h =

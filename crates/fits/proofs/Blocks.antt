@@ -1,6 +1,6 @@
 -- A block of the slope fit is no shorter than the step of the edge window, at any rate from 2,000 to 192,000: both
--- grow with the rate, and from each rate
--- of a list to the next the step at the end is at most the block at the beginning.
+-- grow with the rate, and from each rate of a list to the next the step at the end is at most the block at the
+-- beginning.
 use mathlib.Core.Path.{_≡_, refl}
 use mathlib.Core.Bool.{Bool, true, false, not, _&&_}
 use mathlib.Core.List.{List, [], _∷_}

@@ -1,5 +1,5 @@
 -- The rows of 01's edge table that speak of fits: fs 3,000, carrier 0, samples 0 or (1, 0). Assumes nothing.
-use Prim.Native.Nat.{ℕ, zero, suc, _+_, _-_, _*_, _/_, _≤_, _<_}
+use Prim.Native.Nat.{ℕ, zero, suc, _+_, _-_, _*_, _/_, _^_, _≤_, _<_}
 use native.Mathlib.Omega.{arith}
 use mathlib.Core.Path.{_≡_, refl, ap, _∙_}
 use mathlib.Core.Bool.{false}
@@ -115,7 +115,7 @@ fit-unit iq cyc e i0 len ref inside level unit =
     )
 
 -- ---- the recordings of the table
-ones-unit : (a e n k : ℕ) → n ≤ 1048576 → k < n → a ≤ k → k ≤ e → derot (onesOf a e n) (of 0) k ≡ real 1
+ones-unit : (a e n k : ℕ) → n ≤ 2 ^ 20 → k < n → a ≤ k → k ≤ e → derot (onesOf a e n) (of 0) k ≡ real 1
 unfolding isOne
 ones-unit a e n k few h low high = derot-ones a e n few k h ∙ rw (le-leb a k low, le-leb k e high)
 

@@ -1,5 +1,5 @@
 -- The ways out of the fit of one element.
-use Prim.Native.Nat.{ℕ, _+_, _-_, _*_, _/_, _≤_, _<_}
+use Prim.Native.Nat.{ℕ, _+_, _-_, _*_, _/_, _^_, _≤_, _<_}
 use native.Mathlib.Nat.{le-trans, sub-le, mul-le-mul}
 use native.Mathlib.Omega.{arith}
 use mathlib.Core.Path.{_≡_}
@@ -48,8 +48,7 @@ module _ (iq : List Float) (fs cyc : Float) (e : KeyedElement) where
   fit-found i0 i1 block r h b p = rw (← h, ← b, p)
 
 -- What the fit over an interior asks: it is not empty, it lies within the recording, and its points have room, since
--- a block is no shorter than the
--- step, and so they are no more than the blocks of the edge finder.
+-- a block is no shorter than the step, and so they are no more than the blocks of the edge finder.
 pub interior-room : (iq : List Float) (fs : Float) (e : KeyedElement) (i0 i1 block room : ℕ) → Iq iq → Rate fs → Timed e
     → Inside i0 i1 ≡ interiorOf (samples iq) fs (e .start) (e .end) → block ≡ slopeBlock fs → 4 * stepBlocks iq fs ≤ room
     → (i0 < i1) × (2 * i1 ≤ length iq) × (1 ≤ block) × (2 * ((i1 - i0) / block) ≤ room)
@@ -61,5 +60,5 @@ interior-room iq fs e i0 i1 block room lent rate timed h b r =
     div-mono (i1 - i0) (slopeBlock fs) (samples iq) (stepOf fs) (block-some fs) (step-low fs) (mul-le-mul (le-trans (sub-le i1 i0) high) (step-le-block fs rate)) in
     (omega arith, omega arith, rw b (block-some fs), rw b (omega arith))
   where
-    half : (n : ℕ) → n ≤ 2097152 → n / 2 ≤ 1048576
+    half : (n : ℕ) → n ≤ 2 ^ 21 → n / 2 ≤ 2 ^ 20
     half n h = omega arith

@@ -26,7 +26,7 @@ use Rattle.float.proofs.Sums.{sub-over}
 use Rattle.float.proofs.Meaning.{root-of-units}
 use Rattle.float.proofs.Signs.{Signed, round-signed, number-signed, add-signed, square-signed}
 use Rattle.float.proofs.Monotone.{signed-le}
-use Rattle.float.proofs.Bounds.{Bounded, div-bounded, bounded-finite, bounded-mul, bounded-add, finite-not-nan}
+use Rattle.float.proofs.Bounds.{Bounded, div-bounded, bounded-finite, bounded-mul, bounded-add, finite-number}
 
 -- finite, with the sign plus
 abbrev pub unsigned : Float → Bool
@@ -47,7 +47,7 @@ pub amount-finite : {x : Float} → Amount x → T (finite x)
 amount-finite {x} h = unsigned-finite x (h .plus)
 
 pub amount-not-nan : {x : Float} → Amount x → T (not (isNan x))
-amount-not-nan {x} h = finite-not-nan x (amount-finite h)
+amount-not-nan {x} h = finite-number x (amount-finite h)
 
 unsigned-signed : (x : Float) → T (unsigned x) → Signed false x
 unsigned-signed nan h = h
@@ -145,7 +145,7 @@ amount-half (fin false m e) h =
 -- ---- a sum of squares
 
 finite-signed : (x : Float) → T (finite x) → (s : Bool) × Signed s x
-finite-signed x h = number-signed x (finite-not-nan x h)
+finite-signed x h = number-signed x (finite-number x h)
 
 pub amount-squares : {k a : ℕ} {x y : Float} → Bounded k a x → Bounded k a y → a * a + a * a ≤ 2 ^ 53 → k + k ≤ 970 → Amount (x ⊗ x ⊕ y ⊗ y)
 amount-squares {k} {a} {x} {y} p q h g =

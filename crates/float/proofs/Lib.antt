@@ -30,10 +30,10 @@
 -- Patterns, Narrowing     bit patterns, and the f32 nearest to an f64
 -- Squares, Roots, Value, Meaning     the square root; `sqrt-nearest`: of each value above zero, no other value of the
 --             format is as near to it; `nearest-unique`; `in-units`: a finite value is a number of units
--- Ties, Rounding     what `round` means: no other value of the format is as near, a tie goes to the even one, and from
---             which size on it is infinite: `round-rounded`, `rounded-near`, `rounded-unique`, `last-bit`; and so of all
---             that is defined by it: `narrow-rounded`, `of-rounded`, `fraction-rounded`, `add-rounded`, `sub-rounded`,
---             `mul-rounded`, `div-rounded`
+-- Ties, Rounding     what `round` means: no other value of the format is as near, a tie goes to the even one, and
+--             from which size on it is infinite: `round-rounded`, `rounded-near`, `rounded-unique`, `last-bit`; and
+--             so of all that is defined by it: `narrow-rounded`, `of-rounded`, `fraction-rounded`, `add-rounded`,
+--             `sub-rounded`, `mul-rounded`, `div-rounded`
 -- Unrounded   floor, ceil, round lose nothing to the format: `floor-exact`, `ceil-exact`, `nearest-exact`
 -- Literals    what the small literals are; 01's examples of `round` and `rem_euclid`
 -- Finiteness  `finite-not-nan`, `below-top`, `not-below-top`
@@ -64,4 +64,3 @@ pub mod Amounts
 pub mod Unrounded
 pub mod Ties
 pub mod Rounding
-mod Examples

@@ -1,5 +1,5 @@
--- What `round` means, in either format: `Rounded` of specs/Nearest.antt holds of what it gives (`round-rounded`), and of
--- no other value (`rounded-unique`). So it does of what is defined by it: `narrow-rounded`, `of-rounded`,
+-- What `round` means, in either format: `Rounded` of specs/Nearest.antt holds of what it gives (`round-rounded`), and
+-- of no other value (`rounded-unique`). So it does of what is defined by it: `narrow-rounded`, `of-rounded`,
 -- `fraction-rounded`, `add-rounded`, `sub-rounded`, `mul-rounded`, `div-rounded`. Assumes nothing.
 use mathlib.Core.Path.{_≡_, refl, sym, ap, _∙_, subst}
 use mathlib.Core.Logic.{inl, inr, ⊎-elim, _↔_}
@@ -22,13 +22,13 @@ use Rattle.float.specs.Single.{narrowOf}
 use Rattle.float.proofs.Exactly.{unique}
 use Rattle.float.proofs.Sums.{add-over, sub-over, mul-over, div-over}
 use Rattle.float.proofs.Meaning.{Digits, digits}
-use Rattle.float.specs.Nearest.{apart, lastDigit, Closer, Near, Over, Rounded}
+use Rattle.float.specs.Nearest.{apart, lastDigit, Closer, Near, Overflows, Rounded}
 use Rattle.float.proofs.Ties.{cut-off, Best, best, largest, highest, next-is, largest-lt, largest-digits, next-digits, largest-odd, largest-most}
 
 -- ---- the infinity
 
 -- the same in units
-over-units : (f : Format) (a c : ℕ) → Over f a c ↔ ((overflow f + largest f) * c ≤ 2 * (a * 2 ^ low f))
+over-units : (f : Format) (a c : ℕ) → Overflows f a c ↔ ((overflow f + largest f) * c ≤ 2 * (a * 2 ^ low f))
 unfolding largest
 over-units f a c = (
   λ h. le-trans (le-of-eq same) (le-trans (mul-le-mul-right (2 ^ low f) h) (le-of-eq (mul-assoc 2 a (2 ^ low f)))),
@@ -125,7 +125,7 @@ round-rounded f s a c C = go (decLe (overflow f) (grid f a c))
 
     go : Dec (overflow f ≤ grid f a c) → Rounded f s a c (round f s a c)
     go (yes l) =
-        let over : Over f a c = over-units f a c .1 (at-over f (a * 2 ^ low f) c (grid f a c) (best f a c C) l) in
+        let over : Overflows f a c = over-units f a c .1 (at-over f (a * 2 ^ low f) c (grid f a c) (best f a c C) l) in
         record {
           held = held;
           infinite = (λ e. over, λ o. round-is f s a c ∙ units-over f s (kept (prec f) (a * 2 ^ low f) c) (drop (prec f) (a * 2 ^ low f) c) l);
@@ -168,7 +168,7 @@ rounded-unique f s a c x y v w = go (decLe ((2 ^ suc (prec f) - 1) * 2 ^ (suc (e
     flip true a b h = omega arith
     flip false a b h = omega arith
 
-    go : Dec (Over f a c) → x ≡ y
+    go : Dec (Overflows f a c) → x ≡ y
     go (yes o) = v .infinite .1 o ∙ sym (w .infinite .1 o)
     go (no o) =
         let p = v .near o in

@@ -1,6 +1,6 @@
--- A fraction of whole numbers n / c rounded to p digits, a tie to the even number: what is nearest of the numbers with
--- p digits and zeros after them. `Best`, `best`: for what `round` computes, in units of the format's smallest value. And
--- the largest finite value, and the power of two after it. Assumes nothing.
+-- A fraction of whole numbers n / c rounded to p digits, a tie to the even number: what is nearest of the numbers
+-- with p digits and zeros after them. `Best`, `best`: for what `round` computes, in units of the format's smallest
+-- value. And the largest finite value, and the power of two after it. Assumes nothing.
 use mathlib.Core.Path.{_≡_, refl, sym, ap, _∙_, subst}
 use mathlib.Core.Logic.{_⊎_, inl, inr, ⊎-elim}
 use mathlib.Core.Bool.{Bool, true, false, cond}

@@ -32,14 +32,14 @@ pub record Near (f : Format) (s : Bool) (a c : ℕ) (x : Float) : Type 0 where
   pub nearest : (y : Float) (t : Bool) (b : ℕ) → T (fits f y) → HasValue y t b (2 ^ low f) → 0 < apart s r t b → Closer f r b (apart s (a * 2 ^ low f) s (r * c)) (apart s (a * 2 ^ low f) t (b * c))
 
 -- a / c is (2 ^ prec - 1/2) * 2 ^ (emax + 1 - prec) at least: the largest finite value and half of its last digit
-abbrev pub Over : Format → ℕ → ℕ → Type 0
-Over f a c = (2 ^ suc (prec f) - 1) * 2 ^ (suc (emax f) - prec f) * c ≤ 2 * a
+abbrev pub Overflows : Format → ℕ → ℕ → Type 0
+Overflows f a c = (2 ^ suc (prec f) - 1) * 2 ^ (suc (emax f) - prec f) * c ≤ 2 * a
 
 -- x is ± a / c rounded to the format: an infinity if a / c is over, and else the nearest value, a tie to the even one
 pub record Rounded (f : Format) (s : Bool) (a c : ℕ) (x : Float) : Type 0 where
   pub held : T (fits f x)
-  pub infinite : (x ≡ inf s) ↔ Over f a c
-  pub near : (Over f a c → ⊥) → Near f s a c x
+  pub infinite : (x ≡ inf s) ↔ Overflows f a c
+  pub near : (Overflows f a c → ⊥) → Near f s a c x
 
 -- ---- a square root, rounded
 

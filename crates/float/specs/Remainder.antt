@@ -1,4 +1,4 @@
--- Rust's `rem_euclid`. Definitions only, and its edge case.
+-- Rust's `rem_euclid` (01, part 1). Definitions only.
 use mathlib.Core.Bool.{cond}
 use lib.Ieee.{Float, binary64, rem, lt}
 use Rattle.float.specs.Ops.{_⊕_, zero}

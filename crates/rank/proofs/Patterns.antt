@@ -1,5 +1,5 @@
--- The order of the values is the order of their bit patterns: `precedes-key`, and the key gives its value back,
--- `value-key`. Assumes nothing.
+-- The order of the values is the order of their bit patterns, with the sign apart: `lt-pattern`, `eq-pattern`,
+-- `zero-pattern`. Assumes nothing.
 use mathlib.Core.Path.{_≡_, refl, sym, ap, _∙_, subst}
 use mathlib.Core.Logic.{_⊎_, inl, inr}
 use mathlib.Core.Bool.{Bool, true, false, not, _&&_, _||_, Bool·beq, cond}

@@ -5,7 +5,7 @@ use native.Mathlib.Nat.{div-lt-iff-lt-mul, le-div-iff-mul-le}
 use native.Mathlib.Omega.{arith}
 use mathlib.Core.Path.{_≡_, refl, ap}
 use mathlib.Core.List.{List}
-use lib.ListN.{length, getD, take, drop}
+use lib.ListN.{length, take, drop}
 use lib.Ieee.{Float, nan}
 use Rattle.float.specs.Ops.{_⊘_, eight}
 use Rattle.complex.specs.declared.value.Complex.{Complex}
@@ -13,7 +13,7 @@ use Rattle.complex.specs.Value.{cNorm, cDiv}
 use Rattle.complex.specs.Rows.{zAt, zFill}
 use Rattle.complex.proofs.RowLaws.{zAt-zFill, length-zFill}
 use Rattle.lists.specs.Fill.{fill}
-use Rattle.lists.proofs.Fill.{fill-cong, getD-fill}
+use Rattle.lists.proofs.Fill.{fill-cong}
 use Rattle.row.specs.Window.{stepOf, windowOf, samples, stepBlocks}
 use Rattle.row.specs.Blocks.{blockMean}
 use Rattle.row.specs.Envelope.{amplitude, rowOf, rowLength}
@@ -39,9 +39,6 @@ module _ (w end : List Float) (z : ℕ → Complex) (b : ℕ) (e : end ≡ fill 
 
   pub row-part : take (b - 7) (drop (2 * b) end) ≡ firsts (amplitude z) (b - 7)
   row-part = rw e (part-fill (zFill w 0 z b) (2 * b) (amplitude z) (b - 7) nan room)
-
-  pub row-at : (i : ℕ) → i < b - 7 → getD end (2 * b + i) nan ≡ amplitude z i
-  row-at i h = rw e (getD-fill (zFill w 0 z b) (2 * b) (amplitude z) (b - 7) i nan h room)
 
 -- at a rate and a carrier
 pub row-is : (iq : List Float) (fs carrier : Float) → amplitude (blockMean iq (carrier ⊘ fs) (stepOf fs)) ≡ rowOf iq fs carrier

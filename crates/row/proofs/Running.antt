@@ -13,7 +13,8 @@ use Rattle.complex.specs.Rows.{zAt, cSum}
 use Rattle.complex.proofs.RowLaws.{cSum-cong, zAt-fill-below}
 use Rattle.lists.specs.Fill.{fill}
 use Rattle.lists.proofs.Fill.{fill-turn}
-use Rattle.row.specs.Envelope.{movedBy, runOf, amplitude}
+use Rattle.row.specs.Envelope.{runOf, amplitude}
+use Rattle.row.specs.Inner.{movedBy}
 
 pub run-none : (z : ℕ → Complex) (run : Complex) → run ≡ cSum z 0 8 → run ≡ runOf z 0
 unfolding runOf
