@@ -6,7 +6,8 @@
 --             a yes says of them: `all-timed`, `elements-fit`, `fit-sized`, `fits-fit`, `estimate-sized`
 -- Accepted    what yes to questions 2, 3, 5 and 6 shows: `recording-is`, `element-places`, `fit-places`, `work-room`; the
 --             two ways out of a call and what they show: `refuses`, `accepts`, `refused-by`, `accepted-by`
--- FindAccepted, FitAccepted, EstimateAccepted     of each call: what it goes on with, `find-accepted`; its result by its
+-- FindAccepted, FitAccepted, EstimateAccepted, ResidualAccepted, EvidenceAccepted, SubtractAccepted     of each
+--             call: what it goes on with, `find-accepted`; its result by its
 --             parts, `find-result`; what its promise says: `find-refused`, `find-done`; `estimate-counts`
 pub mod FirstNo
 pub mod Given
@@ -14,3 +15,6 @@ pub mod Accepted
 pub mod FindAccepted
 pub mod FitAccepted
 pub mod EstimateAccepted
+pub mod ResidualAccepted
+pub mod EvidenceAccepted
+pub mod SubtractAccepted

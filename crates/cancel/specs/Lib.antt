@@ -4,3 +4,6 @@ pub mod Answers
 pub mod Find
 pub mod Fit
 pub mod Estimate
+pub mod Residual
+pub mod Evidence
+pub mod Removal

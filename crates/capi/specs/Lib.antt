@@ -1,3 +1,4 @@
 -- What the contracts of `capi` cite, each file named as its source.
 pub mod Calls
 pub mod Functions
+pub mod Measures

@@ -1,3 +1,4 @@
 // The C interface: include/cancel.h says the same for a reader of C.
 pub mod calls;
 pub mod functions;
+pub mod measures;

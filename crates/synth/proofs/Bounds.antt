@@ -5,11 +5,11 @@ use native.Mathlib.Nat.{le-trans, le-of-eq, one-mul}
 use mathlib.Core.Path.{sym, ap}
 use mathlib.Core.Bool.{Bool, true, false, cond}
 use lib.Dec.{T, lit≤}
-use lib.Ieee.{Float, nan, inf, fin, le, eq, neg, down}
-use Rattle.float.specs.Ops.{_⊘_, two, zero as nought}
+use lib.Ieee.{Float, nan, inf, fin, le, eq, neg, down, ofBits}
+use Rattle.float.specs.Ops.{_⊘_, half, two, zero as nought}
 use Rattle.float.specs.Size.{sized}
 use Rattle.float.proofs.Within.{Within, le-within}
-use Rattle.float.proofs.Bounds.{Bounded, bounded-zero, bounded-half, bounded-one, bounded-more, bounded-cond, bounded-add, bounded-sub, bounded-mul}
+use Rattle.float.proofs.Bounds.{Bounded, bounded-zero, bounded-one, bounded-more, bounded-cond, bounded-add, bounded-sub, bounded-mul}
 use Rattle.trig.proofs.Bounds.{sine-bounded, cosine-bounded}
 use Rattle.constants.specs.Constants.{RISE_S}
 use Rattle.complex.specs.Value.{cZero, cMul, cPolar}
@@ -18,6 +18,10 @@ use Rattle.elements.specs.declared.element.KeyedElement.{KeyedElement}
 use Rattle.fits.specs.declared.fit.ElementFit.{ElementFit}
 use Rattle.synth.specs.Rise.{rcOf}
 use Rattle.synth.specs.Baseband.{envelopeOf, tiltAt, synthAt}
+
+bounded-half : Bounded 0 1 half
+unfolding ofBits
+bounded-half = record { bound = lit≤ tt }
 
 pub rise-bounded : (t : Float) → Bounded 50 2 (rcOf t)
 unfolding rcOf

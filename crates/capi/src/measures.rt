@@ -1,0 +1,110 @@
+// The measures at a given estimate, for C: each returns 0 or a refusal's number, and writes figures where it returns 0.
+use cancel::EvidenceAnswer;
+use cancel::Offset;
+use cancel::ResidualAnswer;
+use std::num::nearest_u64_to_f64;
+ghost use mathlib.Core.Path.{_≡_};
+ghost use Rattle.capi.specs.Measures.{residualCalled, residualCall, evidenceCalled, evidenceCall, presentOf, hertzOf};
+
+#[no_mangle]
+pub extern "C" fn cancel_residual_check(
+    iq: &[f32],
+    fs: f64,
+    carrier_hz: f64,
+    carrier_step_hz: f64,
+    elements: &[f64],
+    element_count: usize,
+    fits: &[f64],
+    fit_count: usize,
+    work: &mut [f64],
+    figures: &mut [f64; 5],
+) -> u64
+    ensures { λ r. ⌜ residualCalled r (now (work .exit)) (now (figures .exit))
+        ≡ residualCall (now (iq .entry)) fs «carrier_hz» «carrier_step_hz» (now (elements .entry)) «element_count» (now (fits .entry)) «fit_count» (now (work .entry)) (now (figures .entry)) ⌝ }
+{
+    match cancel::residual_check(
+        iq,
+        fs,
+        carrier_hz,
+        carrier_step_hz,
+        elements,
+        element_count,
+        fits,
+        fit_count,
+        work,
+    ) {
+        ResidualAnswer::Refused(no) => no,
+        ResidualAnswer::Done(r) => {
+            *figures = [
+                r.edge_over_neighbour_db,
+                r.interior_over_neighbour_db,
+                nearest_u64_to_f64(r.edge_blocks as u64),
+                nearest_u64_to_f64(r.interior_blocks as u64),
+                nearest_u64_to_f64(r.gap_blocks as u64),
+            ];
+            0
+        }
+    }
+}
+
+// 1.0 where the offset is present, 0.0 where it is absent.
+fn present(o: Offset) -> f64
+    ensures { λ r. ⌜ r ≡ presentOf o ⌝ }
+{
+    match o {
+        Offset::Hz(_) => 1.0,
+        Offset::Absent => 0.0,
+    }
+}
+
+// The offset, 0.0 where it is absent.
+fn hertz(o: Offset) -> f64
+    ensures { λ r. ⌜ r ≡ hertzOf o ⌝ }
+{
+    match o {
+        Offset::Hz(f) => f,
+        Offset::Absent => 0.0,
+    }
+}
+
+#[no_mangle]
+pub extern "C" fn cancel_second_carrier_evidence(
+    iq: &[f32],
+    fs: f64,
+    carrier_hz: f64,
+    carrier_step_hz: f64,
+    elements: &[f64],
+    element_count: usize,
+    fits: &[f64],
+    fit_count: usize,
+    work: &mut [f64],
+    figures: &mut [f64; 5],
+) -> u64
+    ensures { λ r. ⌜ evidenceCalled r (now (work .exit)) (now (figures .exit))
+        ≡ evidenceCall (now (iq .entry)) fs «carrier_hz» «carrier_step_hz» (now (elements .entry)) «element_count» (now (fits .entry)) «fit_count» (now (work .entry)) (now (figures .entry)) ⌝ }
+{
+    match cancel::second_carrier_evidence(
+        iq,
+        fs,
+        carrier_hz,
+        carrier_step_hz,
+        elements,
+        element_count,
+        fits,
+        fit_count,
+        work,
+    ) {
+        EvidenceAnswer::Refused(no) => no,
+        EvidenceAnswer::Done(e) => {
+            let offset = e.offset_hz;
+            *figures = [
+                nearest_u64_to_f64(e.gap_blocks as u64),
+                e.hot_fraction,
+                present(offset),
+                hertz(offset),
+                e.coherence,
+            ];
+            0
+        }
+    }
+}
