@@ -8,6 +8,7 @@
 --           `prepared-kept`
 -- Taken     fits taken off the means, by samples, by blocks, and one after the other: `taken-turn`, `turned-turn`,
 --           `fits-turn`, `lessened`
+-- Sampled   what the Rust leaves, sample by sample, is what the definition leaves, block by block: `as-sampled`
 -- Ratios    the ways out of `ratio_db` and `floored_at`
 -- Figures   the residual check of a prepared slice: `residual-is`, `residual-prepared`
 -- Counted   a loop that counts: `count-none`, `count-yes`, `count-no`, `count-done`; `count-few`, `count-there`
@@ -19,10 +20,16 @@
 -- Pushed    the Rust's loop over `gap_idx.windows(2)`: `windows-are`, `pushed-are`
 -- ReachEvidence  `evidence-reach`: samples outside the interior and gap blocks do not matter
 -- HypothesisEdges  01's table on hypotheses: `two-signals`, `one-signal`, `unresolved`
+-- Figures   the residual check of a prepared slice: `residual-is`, `residual-prepared`; its counts: `blocks-counted`
+-- Edges     a class with no block: `no-edge-blocks`, `no-interior-blocks`, `no-gap-blocks`; `ratio_db` and `clean` at
+--           their ends
+-- Reach     what the residual check depends on: `residual-reach`; `block-agree`, `left-alike`, `class-alike`
+-- Bounds    the powers that are ranked are finite and have the sign plus: `left-amount`, `left-ranked`
 pub mod Parts
 pub mod Prepared
 pub mod Gathered
 pub mod Taken
+pub mod Sampled
 pub mod Ratios
 pub mod Figures
 pub mod Counted
@@ -35,3 +42,6 @@ pub mod Absence
 pub mod ReachEvidence
 pub mod Pushed
 pub mod HypothesisEdges
+pub mod Edges
+pub mod Reach
+pub mod Bounds
