@@ -2,10 +2,11 @@
 -- first paint Other, then each fit in turn paints its interior and its two edges, the rim comes last. It is a
 -- definition of the block, the rate, the number of samples and the times alone. Definitions only.
 use Prim.Native.Nat.{ℕ, _*_, _/_}
-use mathlib.Core.Bool.{Bool, false, _&&_, _||_, cond}
+use mathlib.Core.Bool.{Bool, _&&_, _||_, cond}
 use mathlib.Core.List.{List, [], _∷_, _++_, map}
 use lib.Dec.{leb, ltb}
-use lib.Ieee.{Float, lt, toUnsigned}
+use lib.ListN.{length, getD}
+use lib.Ieee.{Float, nan, lt, eq, toUnsigned}
 use Rattle.float.specs.Ops.{_⊕_, _⊖_, _⊗_, _⊘_, of, zero, one, two}
 use Rattle.float.specs.Compare.{maxOf}
 use Rattle.float.specs.Whole.{floorOf, ceilOf}
@@ -17,7 +18,7 @@ use Rattle.fits.specs.declared.fit.ElementFit.{ElementFit}
 use Rattle.classes.specs.declared.class.BlockClass.{BlockClass}
 use Rattle.classes.specs.declared.class.BlockClass.the-variants.{Edge, Interior, Gap, Other}
 use Rattle.classes.specs.declared.classify.ClassCounts.{ClassCounts}
-use Rattle.classes.specs.Class.{isClass}
+use Rattle.classes.specs.Class.{codeOf, isClass}
 
 -- the start and the end of an element, which are the Rust's own fields of it
 pub record Times : Type 0 where
@@ -34,24 +35,31 @@ timesOfFit f = timesOf (f .element)
 abbrev pub blocksOf : Float → ℕ → ℕ
 blocksOf fs n = n / windowOf fs
 
-module _ (fs : Float) where
+-- blocks of len samples
+module _ (len : ℕ) where
   -- the centre of block b
   abbrev pub blockCentre : ℕ → Float
-  blockCentre b = centreOf (b * windowOf fs) (windowOf fs)
+  blockCentre b = centreOf (b * len) len
 
   -- `range`: the first block whose centre is at or above lo, and the one after the last whose centre is at or below hi
   abbrev pub firstFrom : Float → ℕ
-  firstFrom lo = toUnsigned 64 (maxOf (ceilOf ((lo ⊖ (of (windowOf fs) ⊖ one) ⊘ two) ⊘ of (windowOf fs))) zero)
+  firstFrom lo = toUnsigned 64 (maxOf (ceilOf ((lo ⊖ (of len ⊖ one) ⊘ two) ⊘ of len)) zero)
 
   abbrev pub pastLast : Float → ℕ
-  pastLast hi = toUnsigned 64 (maxOf (floorOf ((hi ⊖ (of (windowOf fs) ⊖ one) ⊘ two) ⊘ of (windowOf fs)) ⊕ one) zero)
+  pastLast hi = toUnsigned 64 (maxOf (floorOf ((hi ⊖ (of len ⊖ one) ⊘ two) ⊘ of len) ⊕ one) zero)
 
   unfoldable pub inRange : Float → Float → ℕ → Bool
   inRange lo hi b = leb (firstFrom lo) b && ltb b (pastLast hi)
 
+-- Each of a list in turn paints over what is there.
+unfoldable pub inTurn : {A B : Type 0} → (A → B → B) → List A → B → B
+inTurn paints [] b = b
+inTurn paints (x ∷ xs) b = inTurn paints xs (paints x b)
+
+module _ (fs : Float) where
   -- within three rises of an element: no gap
   unfoldable pub near : Times → ℕ → Bool
-  near t b = inRange (t .start ⊖ of 3 ⊗ (RISE_S ⊗ fs)) (t .end ⊕ of 3 ⊗ (RISE_S ⊗ fs)) b
+  near t b = inRange (windowOf fs) (t .start ⊖ of 3 ⊗ (RISE_S ⊗ fs)) (t .end ⊕ of 3 ⊗ (RISE_S ⊗ fs)) b
 
   -- more than two rises inside a fitted element that is longer than four
   unfoldable pub inside : Times → ℕ → Bool
@@ -59,33 +67,32 @@ module _ (fs : Float) where
       let r = RISE_S ⊗ fs in
       let lo = t .start ⊕ two ⊗ r in
       let hi = t .end ⊖ two ⊗ r in
-      lt (of 4 ⊗ r) (t .end ⊖ t .start) && inRange lo hi b && lt lo (blockCentre b) && lt (blockCentre b) hi
+      let centre = blockCentre (windowOf fs) b in
+      lt (of 4 ⊗ r) (t .end ⊖ t .start) && inRange (windowOf fs) lo hi b && lt lo centre && lt centre hi
 
   -- within the ramp at the time x
   unfoldable pub atEdge : Float → ℕ → Bool
-  atEdge x b = inRange (x ⊖ EDGE_ZONE_S ⊗ fs) (x ⊕ EDGE_ZONE_S ⊗ fs) b
+  atEdge x b = inRange (windowOf fs) (x ⊖ EDGE_ZONE_S ⊗ fs) (x ⊕ EDGE_ZONE_S ⊗ fs) b
 
-  -- all elements first paint Other, over Gap
-  unfoldable pub elementsPaint : List Times → ℕ → BlockClass
-  elementsPaint [] b = Gap
-  elementsPaint (t ∷ ts) b = cond (near t b) Other (elementsPaint ts b)
+  -- an element paints Other
+  unfoldable pub elementPaints : ℕ → Times → BlockClass → BlockClass
+  elementPaints b t c = cond (near t b) Other c
 
-  -- a fit paints its interior and its two edges over what is there
-  unfoldable pub fitPaints : Times → BlockClass → ℕ → BlockClass
-  fitPaints t c b = cond (atEdge (t .start) b || atEdge (t .end) b) Edge (cond (inside t b) Interior c)
-
-  -- each fit in turn
-  unfoldable pub fitsPaint : List Times → BlockClass → ℕ → BlockClass
-  fitsPaint [] c b = c
-  fitsPaint (t ∷ ts) c b = fitsPaint ts (fitPaints t c b) b
+  -- a fit paints its interior, and then its two edges
+  unfoldable pub fitPaints : ℕ → Times → BlockClass → BlockClass
+  fitPaints b t c = cond (atEdge (t .start) b || atEdge (t .end) b) Edge (cond (inside t b) Interior c)
 
   -- the rim: within RIM_S of an end of n samples
   unfoldable pub onRim : ℕ → ℕ → Bool
-  onRim n b = lt (blockCentre b) (RIM_S ⊗ fs) || lt (of n ⊖ RIM_S ⊗ fs) (blockCentre b)
+  onRim n b =
+      let centre = blockCentre (windowOf fs) b in
+      lt centre (RIM_S ⊗ fs) || lt (of n ⊖ RIM_S ⊗ fs) centre
 
-  -- the class of block b of n samples: the times of the fits' elements and of the elements found
+  -- The class of block b of n samples, by the times of the fits' elements and of the elements found: over Gap, all
+  -- elements paint first, then the fits, and the rim comes last.
   unfoldable pub classAt : ℕ → List Times → List Times → ℕ → BlockClass
-  classAt n fitted found b = cond (onRim n b) Other (fitsPaint fitted (elementsPaint (fitted ++ found) b) b)
+  classAt n fitted found b =
+      cond (onRim n b) Other (inTurn (fitPaints b) fitted (inTurn (elementPaints b) (fitted ++ found) Gap))
 
 -- the same of an estimate
 abbrev pub classOf : Float → ℕ → List ElementFit → List KeyedElement → ℕ → BlockClass
@@ -100,3 +107,10 @@ countsOf class blocks =
       gap = countTo (λ b. isClass Gap (class b)) blocks;
       other = countTo (λ b. isClass Other (class b)) blocks;
     }
+
+-- the same of a slice that holds the number of each block's class: the counts of the row that it holds (`counts-hold`)
+unfoldable pub countIn : List Float → BlockClass → ℕ
+countIn l c = countTo (λ b. eq (getD l b nan) (codeOf c)) (length l)
+
+abbrev pub countsIn : List Float → ClassCounts
+countsIn l = record { edge = countIn l Edge; interior = countIn l Interior; gap = countIn l Gap; other = countIn l Other }

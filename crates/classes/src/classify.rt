@@ -1,4 +1,23 @@
-// The classes of a recording's blocks, by the times of an estimate.
+// The classes of a recording's blocks, by the times of an estimate. Rust: classify_blocks, whose row of classes is a
+// lent slice here that holds the number of each.
+use crate::class::BlockClass;
+use crate::class::code;
+use constants::EDGE_ZONE_S;
+use constants::RIM_S;
+use constants::RISE_S;
+use elements::KeyedElement;
+use elements::element_at;
+use fits::fit_at;
+ghost use mathlib.Core.Path.{_≡_};
+ghost use mathlib.Core.Bool.{true};
+ghost use Prim.Native.Nat.{_*_, _≤_, min};
+ghost use lib.ListN.{length};
+ghost use Rattle.row.specs.Window.{Rate, windowOf};
+ghost use Rattle.fits.specs.Lists.{elementsIn, fitsIn};
+ghost use Rattle.classes.specs.declared.class.BlockClass.the-variants.{Edge, Interior, Other};
+ghost use Rattle.classes.specs.Class.{codeOf, codesOf};
+ghost use Rattle.classes.specs.Classify.{timesOf, blocksOf, firstFrom, pastLast, inRange, inside, atEdge, onRim, inTurn, classOf, countIn, countsIn};
+ghost use Rattle.classes.specs.Inner.{painted, amid, elementPainted, fitPainted};
 
 // How many blocks have each class.
 pub struct ClassCounts {
@@ -6,4 +25,234 @@ pub struct ClassCounts {
     pub interior: usize,
     pub gap: usize,
     pub other: usize,
+}
+
+// Rust: `a` in `range`.
+fn first_from(len: usize, lo: f64) -> usize
+    requires { ⌜ len ≤ 512 ⌝ }
+    ensures { λ r. ⌜ r ≡ firstFrom len lo ⌝ }
+{
+    let l = float::exact(len);
+    float::to_whole(float::max(float::ceil((lo - (l - 1.0) / 2.0) / l), 0.0))
+}
+
+// Rust: `b` in `range`.
+fn past_last(len: usize, hi: f64) -> usize
+    requires { ⌜ len ≤ 512 ⌝ }
+    ensures { λ r. ⌜ r ≡ pastLast len hi ⌝ }
+{
+    let l = float::exact(len);
+    float::to_whole(float::max(float::floor((hi - (l - 1.0) / 2.0) / l) + 1.0, 0.0))
+}
+
+// Rust: usize::min.
+fn lesser(a: usize, b: usize) -> usize
+    ensures { λ r. ⌜ r ≡ min a b ⌝ }
+{
+    if a < b { a } else { b }
+}
+
+// Rust: `vec![BlockClass::Gap; blocks]`.
+fn paint_all(x: f64, class: &mut [f64])
+    ensures { λ _. ⌜ now (class .exit) ≡ painted (now (class .entry)) (λ b. true) x ⌝ }
+{
+    let n = class.len();
+    for b in 0..n {
+        class[b] = x;
+    }
+}
+
+// Rust: `range` and the loop over it. Only its end can lie past the blocks: from a start past them it is empty.
+fn paint_range(len: usize, lo: f64, hi: f64, x: f64, class: &mut [f64])
+    requires { ⌜ len ≤ 512 ⌝ }
+    ensures { λ _. ⌜ now (class .exit) ≡ painted (now (class .entry)) (inRange len lo hi) x ⌝ }
+{
+    let a = first_from(len, lo);
+    let e = lesser(past_last(len, hi), class.len());
+    for b in a..e {
+        class[b] = x;
+    }
+}
+
+// Rust: the loop over the blocks of an interior. The half of the window is computed once.
+fn paint_amid(len: usize, lo: f64, hi: f64, x: f64, class: &mut [f64])
+    requires { ⌜ len ≤ 512 ⌝ }
+    requires { ⌜ length (now class) ≤ 131072 ⌝ }
+    ensures { λ _. ⌜ now (class .exit) ≡ painted (now (class .entry)) (amid len lo hi) x ⌝ }
+{
+    let a = first_from(len, lo);
+    let e = lesser(past_last(len, hi), class.len());
+    let half = (float::exact(len) - 1.0) / 2.0;
+    for b in a..e {
+        let centre = float::exact(b * len) + half;
+        if centre > lo && centre < hi {
+            class[b] = x;
+        }
+    }
+}
+
+// Rust: the loop over the elements, of one.
+fn paint_element(fs: f64, len: usize, e: KeyedElement, class: &mut [f64])
+    requires { ⌜ Rate fs ⌝ }
+    requires { ⌜ len ≡ windowOf fs ⌝ }
+    ensures { λ _. ⌜ now (class .exit) ≡ elementPainted fs e (now (class .entry)) ⌝ }
+{
+    let r = RISE_S * fs;
+    let x = code(BlockClass::Other);
+    paint_range(len, e.start - 3.0 * r, e.end + 3.0 * r, x, class);
+}
+
+// Rust: the first half of the loop over the fits, of one.
+fn paint_interior(fs: f64, len: usize, e: KeyedElement, class: &mut [f64])
+    requires { ⌜ Rate fs ⌝ }
+    requires { ⌜ len ≡ windowOf fs ⌝ }
+    requires { ⌜ length (now class) ≤ 131072 ⌝ }
+    ensures { λ _. ⌜ now (class .exit) ≡ painted (now (class .entry)) (inside fs (timesOf e)) (codeOf Interior) ⌝ }
+{
+    let r = RISE_S * fs;
+    if e.end - e.start > 4.0 * r {
+        let x = code(BlockClass::Interior);
+        paint_amid(len, e.start + 2.0 * r, e.end - 2.0 * r, x, class);
+    }
+}
+
+// Rust: the loop over `[s, e]`, of one edge.
+fn paint_edge(fs: f64, len: usize, edge: f64, class: &mut [f64])
+    requires { ⌜ Rate fs ⌝ }
+    requires { ⌜ len ≡ windowOf fs ⌝ }
+    ensures { λ _. ⌜ now (class .exit) ≡ painted (now (class .entry)) (atEdge fs edge) (codeOf Edge) ⌝ }
+{
+    let x = code(BlockClass::Edge);
+    paint_range(
+        len,
+        edge - EDGE_ZONE_S * fs,
+        edge + EDGE_ZONE_S * fs,
+        x,
+        class,
+    );
+}
+
+// Rust: the loop over the fits, of one.
+fn paint_fit(fs: f64, len: usize, e: KeyedElement, class: &mut [f64])
+    requires { ⌜ Rate fs ⌝ }
+    requires { ⌜ len ≡ windowOf fs ⌝ }
+    requires { ⌜ length (now class) ≤ 131072 ⌝ }
+    ensures { λ _. ⌜ now (class .exit) ≡ fitPainted fs e (now (class .entry)) ⌝ }
+{
+    paint_interior(fs, len, e, class);
+    paint_edge(fs, len, e.start, class);
+    paint_edge(fs, len, e.end, class);
+}
+
+// Rust: the loop over the elements, of those found.
+fn paint_elements(fs: f64, len: usize, elements: &[f64], count: usize, class: &mut [f64])
+    requires { ⌜ Rate fs ⌝ }
+    requires { ⌜ len ≡ windowOf fs ⌝ }
+    requires { ⌜ 4 * count ≤ length (now elements) ⌝ }
+    ensures { λ _. ⌜ now (class .exit) ≡ inTurn (elementPainted fs) (elementsIn (now (elements .entry)) count) (now (class .entry)) ⌝ }
+{
+    for k in 0..count {
+        let e = element_at(elements, k);
+        paint_element(fs, len, e, class);
+    }
+}
+
+// Rust: the loop over the elements, of those of the fits.
+fn paint_fitted(fs: f64, len: usize, fits: &[f64], count: usize, class: &mut [f64])
+    requires { ⌜ Rate fs ⌝ }
+    requires { ⌜ len ≡ windowOf fs ⌝ }
+    requires { ⌜ 8 * count ≤ length (now fits) ⌝ }
+    ensures { λ _. ⌜ now (class .exit) ≡ inTurn (λ f. elementPainted fs (f .element)) (fitsIn (now (fits .entry)) count) (now (class .entry)) ⌝ }
+{
+    for k in 0..count {
+        let f = fit_at(fits, k);
+        paint_element(fs, len, f.element, class);
+    }
+}
+
+// Rust: the loop over the fits.
+fn paint_fits(fs: f64, len: usize, fits: &[f64], count: usize, class: &mut [f64])
+    requires { ⌜ Rate fs ⌝ }
+    requires { ⌜ len ≡ windowOf fs ⌝ }
+    requires { ⌜ 8 * count ≤ length (now fits) ⌝ }
+    requires { ⌜ length (now class) ≤ 131072 ⌝ }
+    ensures { λ _. ⌜ now (class .exit) ≡ inTurn (λ f. fitPainted fs (f .element)) (fitsIn (now (fits .entry)) count) (now (class .entry)) ⌝ }
+{
+    for k in 0..count {
+        let f = fit_at(fits, k);
+        paint_fit(fs, len, f.element, class);
+    }
+}
+
+// Rust: the last loop.
+fn paint_rim(fs: f64, len: usize, n: usize, class: &mut [f64])
+    requires { ⌜ Rate fs ⌝ }
+    requires { ⌜ len ≡ windowOf fs ⌝ }
+    requires { ⌜ n ≤ 1048576 ⌝ }
+    requires { ⌜ length (now class) ≤ 131072 ⌝ }
+    ensures { λ _. ⌜ now (class .exit) ≡ painted (now (class .entry)) (onRim fs n) (codeOf Other) ⌝ }
+{
+    let rim = RIM_S * fs;
+    let last = float::exact(n) - rim;
+    let half = (float::exact(len) - 1.0) / 2.0;
+    let x = code(BlockClass::Other);
+    let blocks = class.len();
+    for b in 0..blocks {
+        let centre = float::exact(b * len) + half;
+        if centre < rim || centre > last {
+            class[b] = x;
+        }
+    }
+}
+
+// Rust: classify_blocks. The estimate is its elements and fits, each in a list with its count.
+pub fn classify_blocks(
+    fs: f64,
+    n: usize,
+    elements: &[f64],
+    element_count: usize,
+    fits: &[f64],
+    fit_count: usize,
+    class: &mut [f64],
+)
+    requires { ⌜ Rate fs ⌝ }
+    requires { ⌜ n ≤ 1048576 ⌝ }
+    requires { ⌜ 4 * «element_count» ≤ length (now elements) ⌝ }
+    requires { ⌜ 8 * «fit_count» ≤ length (now fits) ⌝ }
+    requires { ⌜ length (now class) ≡ blocksOf fs n ⌝ }
+    ensures { λ _. ⌜ now (class .exit)
+        ≡ codesOf (classOf fs n (fitsIn (now (fits .entry)) «fit_count») (elementsIn (now (elements .entry)) «element_count»)) (blocksOf fs n) ⌝ }
+{
+    let len = 8 * row::edge_step(fs);
+    let gap = code(BlockClass::Gap);
+    paint_all(gap, class);
+    paint_fitted(fs, len, fits, fit_count, class);
+    paint_elements(fs, len, elements, element_count, class);
+    paint_fits(fs, len, fits, fit_count, class);
+    paint_rim(fs, len, n, class);
+}
+
+// How many blocks have the class c, in a slice that holds the number of each block's class.
+pub fn count_class(class: &[f64], c: BlockClass) -> usize
+    ensures { λ r. ⌜ r ≡ countIn (now (class .entry)) c ⌝ }
+{
+    let k = code(c);
+    let blocks = class.len();
+    let mut count: usize = 0;
+    for b in 0..blocks {
+        count = count + (class[b] == k) as usize;
+    }
+    count
+}
+
+// How many blocks have each class.
+pub fn count_classes(class: &[f64]) -> ClassCounts
+    ensures { λ r. ⌜ r ≡ countsIn (now (class .entry)) ⌝ }
+{
+    ClassCounts {
+        edge: count_class(class, BlockClass::Edge),
+        interior: count_class(class, BlockClass::Interior),
+        gap: count_class(class, BlockClass::Gap),
+        other: count_class(class, BlockClass::Other),
+    }
 }

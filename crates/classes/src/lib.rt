@@ -6,3 +6,6 @@ pub use class::BlockClass;
 pub use class::code;
 pub use class::is_class;
 pub use classify::ClassCounts;
+pub use classify::classify_blocks;
+pub use classify::count_class;
+pub use classify::count_classes;

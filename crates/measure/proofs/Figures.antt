@@ -1,6 +1,6 @@
 -- The residual check over a prepared slice: from what each of its steps ensures to the check's definition.
 use Prim.Native.Nat.{ℕ, _+_, _*_, _≤_, _<_}
-use native.Mathlib.Nat.{mul-le-mul-left}
+use native.Mathlib.Nat.{mul-le-mul-left, div-mul-le-self}
 use native.Mathlib.Omega.{arith}
 use mathlib.Core.Path.{_≡_, ap, _∙_}
 use mathlib.Core.List.{List}
@@ -13,7 +13,8 @@ use Rattle.constants.specs.Constants.{NEIGHBOUR_PERCENTILE}
 use Rattle.complex.specs.declared.value.Complex.{Complex}
 use Rattle.complex.specs.Value.{cNormSqr}
 use Rattle.complex.specs.Rows.{zAt}
-use Rattle.row.specs.Window.{Rate, stepOf, windowOf}
+use Rattle.row.specs.Samples.{Iq}
+use Rattle.row.specs.Window.{Rate, stepOf, windowOf, samples, blocks}
 use Rattle.row.proofs.Steps.{step-low, step-high}
 use Rattle.rank.specs.Percentile.{percentileOf}
 use Rattle.fits.specs.declared.fit.ElementFit.{ElementFit}
@@ -92,3 +93,13 @@ residual-prepared w z class nb fs fits p = rw (same Edge, same Interior, same Ga
         picked-cong (classIn w (2 * nb) c) (λ b. isClass c (class b)) (power (residualMean fs nb fits (zAt w))) (power (residualMean fs nb fits z)) nb
         (λ b h. class-prepared w z class nb c b p h)
         (λ b h t. ap (λ y. cNormSqr (lessFits fs (windowOf fs) nb fits b y)) (p .mean b h))
+
+-- ---- of a recording
+
+-- the whole blocks of a recording have no more samples than it has
+pub blocks-inside : (iq : List Float) (fs : Float) (nb : ℕ) → Iq iq → nb ≡ blocks iq (windowOf fs) → nb * windowOf fs ≤ 1048576
+blocks-inside iq fs nb i e = rw e (omega (arith, div-mul-le-self (samples iq) (windowOf fs), i .short))
+
+pub check-is : (w : List Float) (z : ℕ → Complex) (class : ℕ → BlockClass) (nb n : ℕ) (fs : Float) (fits : List ElementFit) (r : ResidualCheck)
+    → nb ≡ n → Prepared w z class n → r ≡ residualIn w nb fs fits → r ≡ residualOf fs z class n fits
+check-is w z class nb n fs fits r e p h = h ∙ rw e (residual-prepared w z class n fs fits p)

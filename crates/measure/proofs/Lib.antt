@@ -2,6 +2,7 @@
 
 -- Parts     slices that agree in part: `take-same`, `take-at`, `take-less`, `zAt-same`, `zAt-below`; a part that was
 --           lent and is back: `put-at`
+-- Prepared  the slice made ready: `counted`, `prepared`
 -- Gathered  the loop that gathers: `gather-yes`, `gather-no`, `gather-done`; what the slice holds then: `gathered`,
 --           `gathered-below`, `level-is`, `powers-same`; a prepared slice: `class-prepared`, `powers-prepared`,
 --           `prepared-kept`
@@ -18,6 +19,7 @@
 -- Pushed    the Rust's loop over `gap_idx.windows(2)`: `windows-are`, `pushed-are`
 -- ReachEvidence  `evidence-reach`: samples outside the interior and gap blocks do not matter
 pub mod Parts
+pub mod Prepared
 pub mod Gathered
 pub mod Taken
 pub mod Ratios

@@ -5,9 +5,11 @@ pub mod left;
 pub mod offset;
 pub mod pairs;
 pub mod powers;
+pub mod prepare;
 pub mod reference;
 pub mod residual;
 
 pub use evidence::SecondCarrierEvidence;
 pub use offset::Offset;
 pub use residual::ResidualCheck;
+pub use residual::residual_check;

@@ -2,6 +2,7 @@
 use crate::left::lessen;
 use crate::powers::Level;
 use crate::powers::level_of;
+use crate::prepare::prepare;
 use classes::BlockClass;
 use constants::CLEAN_EDGE_OVER_NEIGHBOUR_DB;
 use constants::CLEAN_INTERIOR_OVER_NEIGHBOUR_DB;
@@ -12,9 +13,10 @@ ghost use mathlib.Core.Path.{_≡_};
 ghost use Prim.Native.Nat.{_*_, _≤_};
 ghost use lib.ListN.{length, take};
 ghost use Rattle.trig.specs.Sine.{sineTable};
-ghost use Rattle.row.specs.Window.{Rate, windowOf};
-ghost use Rattle.fits.specs.Lists.{fitsIn};
-ghost use Rattle.measure.specs.Residual.{ratioDb, floored, cleanOf};
+ghost use Rattle.row.specs.Samples.{Iq};
+ghost use Rattle.row.specs.Window.{Rate, windowOf, stepBlocks};
+ghost use Rattle.fits.specs.Lists.{elementsIn, fitsIn};
+ghost use Rattle.measure.specs.Residual.{ratioDb, floored, residualCheckOf, cleanOf};
 ghost use Rattle.measure.specs.Inner.{figuresFrom, residualIn};
 
 // Rust: ResidualCheck.
@@ -106,4 +108,38 @@ pub fn residual(
     let interior = level_of(work, at, at, nb, BlockClass::Interior, out, 0.5);
     let gap = level_of(work, at, at, nb, BlockClass::Gap, out, NEIGHBOUR_PERCENTILE);
     figures(edge, interior, gap)
+}
+
+// Rust: residual_check. The estimate is its carrier, and its elements and fits, each in a list with its count.
+pub fn residual_check(
+    iq: &[f32],
+    fs: f64,
+    carrier: f64,
+    elements: &[f64],
+    element_count: usize,
+    fits: &[f64],
+    fit_count: usize,
+    work: &mut [f64],
+    sine: &[u64; 1025],
+) -> ResidualCheck
+    requires { ⌜ Iq (now iq) ⌝ }
+    requires { ⌜ Rate fs ⌝ }
+    requires { ⌜ now sine ≡ sineTable ⌝ }
+    requires { ⌜ 4 * «element_count» ≤ length (now elements) ⌝ }
+    requires { ⌜ 8 * «fit_count» ≤ length (now fits) ⌝ }
+    requires { ⌜ 4 * stepBlocks (now iq) fs ≤ length (now work) ⌝ }
+    ensures { λ r. ⌜ r ≡ residualCheckOf (now (iq .entry)) fs carrier (fitsIn (now (fits .entry)) «fit_count») (elementsIn (now (elements .entry)) «element_count») ⌝ }
+{
+    let nb = prepare(
+        iq,
+        fs,
+        carrier,
+        elements,
+        element_count,
+        fits,
+        fit_count,
+        work,
+        sine,
+    );
+    residual(work, nb, fs, fits, fit_count, sine)
 }

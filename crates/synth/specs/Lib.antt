@@ -1,4 +1,6 @@
--- What the contracts of `synth` cite.
+-- What the contracts of `synth` cite. `Inner` is not needed to read a public promise.
 pub mod Rise
 pub mod Span
 pub mod Baseband
+pub mod Removal
+pub mod Inner

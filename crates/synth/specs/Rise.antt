@@ -8,4 +8,6 @@ use Rattle.trig.specs.Circle.{sinOf}
 use Rattle.constants.specs.Constants.{RISE_S}
 
 unfoldable pub rcOf : Float → Float
-rcOf t = cond (le t (neg RISE_S ⊘ two)) zero (cond (le (RISE_S ⊘ two) t) one (half ⊕ half ⊗ sinOf (PI ⊗ t ⊘ RISE_S)))
+rcOf t =
+    cond (le t (neg RISE_S ⊘ two)) zero
+    (cond (le (RISE_S ⊘ two) t) one (half ⊕ half ⊗ sinOf (PI ⊗ t ⊘ RISE_S)))

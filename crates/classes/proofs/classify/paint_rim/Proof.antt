@@ -1,0 +1,72 @@
+-- The invariant: Other is at those places below b that lie on the rim.
+use Prim.Native.Nat.{_≤_, _-_}
+use mathlib.Core.Path.{_≡_, ap, _∙_}
+use mathlib.Core.Logic.{⊎-elim}
+use lib.ListN.{length, length-set}
+use Rattle.classes.specs.Classify.{onRim}
+use Rattle.classes.specs.Inner.{painted, between}
+use Rattle.classes.proofs.Painted.{paint-none, paint-yes, paint-no, paint-everywhere}
+use Rattle.classes.proofs.Zones.{rim-is}
+use Rattle.classes.proofs.Sizes.{window-small, window-exact, first-fits, first-exact, centre-is}
+use borrow.Author.Needs.{needs}
+use Rattle.classes.proofs.classify.paint_rim.Statement.{statement}
+use Rattle.classes.proofs.classify.paint_rim.Tie as tie
+
+abbrev Inv-loop : tie.InvT-loop
+Inv-loop fs len n class₀ rim last half x blocks b₀ class b =
+    (b ≤ blocks) × (length class ≡ length class₀) × (class ≡ painted class₀ (between 0 b (onRim fs n)) x)
+
+abbrev μ-loop : tie.MeasureT-loop
+μ-loop fs len n class₀ rim last half x blocks b₀ class b = blocks - b
+
+exact-requires-2 : tie.Need-exact-requires-2 Inv-loop μ-loop
+exact-requires-2 c κs = search (needs, window-exact)
+
+mul-exact : tie.Need-mul-exact Inv-loop μ-loop
+mul-exact c = first-fits _ _ (length (c .before .loop .class)) (search needs) (search needs) (search (needs, window-small))
+
+exact-requires-3 : tie.Need-exact-requires-3 Inv-loop μ-loop
+exact-requires-3 c κs = first-exact _ _ (length (c .before .loop .class)) (search needs) (search needs) (search (needs, window-small))
+
+loop-again : tie.Need-loop-again Inv-loop μ-loop
+loop-again c =
+    let at = c .before in
+    let loop = at .before .before in
+    let inv = loop .loop .inv in
+    let made = loop .before .before in
+    let args = made .before .before .before in
+    let centre = centre-is _ _ _ _ (made .exact2 .ensures) (at .exact3 .ensures) in
+    let rim = rim-is _ _ _ _ _ _ (args .pre .1 .0) (made .before .exact .ensures) centre in
+    ⊎-elim
+    (λ w. (
+      search needs,
+      ap length (w .1) ∙ simp length-set (inv .1),
+      w .1 ∙ paint-yes _ _ _ _ _ _ (inv .2) (search needs) (search needs) (⊎-elim (λ v. rim .0 (v .taken)) (λ v. rim .1 (v .1 .taken)) (w .0 .came)),
+    ))
+    (λ w. (search needs, ap length (w .2) ∙ inv .1, w .2 ∙ paint-no _ _ _ _ _ _ (inv .2) (rim .2 (w .0 .left) (w .1 .left))))
+    (c .if1 .came)
+
+returns : tie.Need-returns Inv-loop μ-loop
+returns c =
+    let loop = c .before in
+    rw (loop .before .code .ensures) at (paint-everywhere _ _ _ _ _ (loop .loop .inv .2) (search needs))
+
+pub paint-rim-spec : {M : Type 1} → statement M
+paint-rim-spec =
+    tie.close
+    (tie.spec
+    Inv-loop
+    μ-loop
+    (λ c κs. search needs)
+    exact-requires-2
+    (λ c κs. search needs)
+    (λ c. search (needs, paint-none))
+    mul-exact
+    exact-requires-3
+    (λ c. search needs)
+    (λ c. search needs)
+    (λ c. search needs)
+    (λ c. search needs)
+    loop-again
+    (λ c. search needs)
+    returns)
