@@ -15,6 +15,8 @@
 -- Paired    gap blocks above a level and pairs of them: the ways out of each test, and the loops over the blocks
 -- Offsets   the power at an offset, the strongest of three: `strongest-is`, `offset-none`, `offset-some`
 -- Same      what the evidence depends on: `reference-same`, `with-same`, `evidence-same`
+-- Evidences  the evidence of a work slice, and of a prepared one: `evidence-is`, `evidence-prepared`, `check-is`
+-- Levels    the powers are amounts: `power-amount`, `side-amounts`; their order is that of the values: `order-is`
 -- Absence   the offset is absent exactly when there is no pair: `absent-exactly`, `present-exactly`
 -- Pushed    the Rust's loop over `gap_idx.windows(2)`: `windows-are`, `pushed-are`
 -- ReachEvidence  `evidence-reach`: samples outside the interior and gap blocks do not matter
@@ -30,6 +32,7 @@ pub mod Paired
 pub mod Offsets
 pub mod Same
 pub mod Evidences
+pub mod Levels
 pub mod Absence
 pub mod ReachEvidence
 pub mod Pushed

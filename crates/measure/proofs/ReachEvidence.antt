@@ -5,18 +5,22 @@ use native.Mathlib.Omega.{arith}
 use mathlib.Core.Path.{_≡_, refl, ap, _∙_}
 use mathlib.Core.Logic.{_⊎_, inl, inr}
 use mathlib.Core.Bool.{Bool, true, false, false≢true}
-use mathlib.Core.List.{List}
+use mathlib.Core.List.{List, map}
+use lib.ListN.{length}
 use lib.Ieee.{Float}
 use Rattle.float.specs.Ops.{_⊘_, of}
 use Rattle.complex.specs.declared.value.Complex.{Complex}
 use Rattle.complex.specs.Value.{cAdd, cMul, cConj, cDiv}
 use Rattle.complex.specs.Rows.{zAt, cSum}
-use Rattle.row.specs.Window.{windowOf}
+use Rattle.row.specs.Window.{windowOf, samples, blocks}
 use Rattle.row.specs.Blocks.{rotorOf, derot, meanFrom, blockMean}
+use Rattle.elements.specs.declared.element.KeyedElement.{KeyedElement}
+use Rattle.fits.specs.declared.fit.ElementFit.{ElementFit}
 use Rattle.classes.specs.declared.class.BlockClass.{BlockClass}
 use Rattle.classes.specs.declared.class.BlockClass.the-variants.{Edge, Interior, Gap, Other}
 use Rattle.classes.specs.Class.{isClass}
-use Rattle.measure.specs.Evidence.{isIn, meanAt, referenceOf, evidenceOf}
+use Rattle.classes.specs.Classify.{timesOf, timesOfFit, classOf}
+use Rattle.measure.specs.Evidence.{isIn, meanAt, referenceOf, evidenceOf, evidenceCheckOf}
 use Rattle.measure.proofs.Same.{reference-same, evidence-same}
 
 -- ---- one block
@@ -68,3 +72,12 @@ module _ (iq iq' : List Float) (fs carrier : Float) (class : ℕ → BlockClass)
   evidence-reach =
       evidence-same (meanAt iq fs) (meanAt iq' fs) (isIn Gap class) (isIn Gap class) (meanAt iq fs carrier) (meanAt iq' fs carrier) nb (λ b h. refl) (gap-agrees carrier) gap-agrees
       (isIn Interior class) (isIn Interior class) (λ b h. refl) interior-agrees fs carrier
+
+-- the same of an estimate, in the Rust's own fields: the times of its elements and of its fits' elements
+pub evidence-check-reach : (iq iq' : List Float) (fs carrier : Float) (fits fits' : List ElementFit) (elements elements' : List KeyedElement)
+    → length iq ≡ length iq' → map timesOfFit fits ≡ map timesOfFit fits' → map timesOf elements ≡ map timesOf elements'
+    → ((b : ℕ) → b < blocks iq (windowOf fs)
+    → (classOf fs (samples iq) fits elements b ≡ Gap) ⊎ (classOf fs (samples iq) fits elements b ≡ Interior) → AgreeIn iq iq' (windowOf fs) b)
+    → evidenceCheckOf iq fs carrier fits elements ≡ evidenceCheckOf iq' fs carrier fits' elements'
+evidence-check-reach iq iq' fs carrier fits fits' elements elements' l f e agree =
+    evidence-reach iq iq' fs carrier (classOf fs (samples iq) fits elements) (blocks iq (windowOf fs)) agree ∙ rw (l, f, e)

@@ -10,6 +10,7 @@ pub mod reference;
 pub mod residual;
 
 pub use evidence::SecondCarrierEvidence;
+pub use evidence::second_carrier_evidence;
 pub use offset::Offset;
 pub use residual::ResidualCheck;
 pub use residual::residual_check;
