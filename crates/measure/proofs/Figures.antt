@@ -8,7 +8,7 @@ use lib.ListN.{length, take}
 use lib.Ieee.{Float, eq}
 use Rattle.float.specs.Ops.{half}
 use Rattle.lists.specs.Those.{picked}
-use Rattle.lists.proofs.Those.{picked-cong}
+use Rattle.lists.proofs.Those.{picked-cong, length-picked}
 use Rattle.constants.specs.Constants.{NEIGHBOUR_PERCENTILE}
 use Rattle.complex.specs.declared.value.Complex.{Complex}
 use Rattle.complex.specs.Value.{cNormSqr}
@@ -21,6 +21,7 @@ use Rattle.fits.specs.declared.fit.ElementFit.{ElementFit}
 use Rattle.classes.specs.declared.class.BlockClass.{BlockClass}
 use Rattle.classes.specs.declared.class.BlockClass.the-variants.{Edge, Interior, Gap}
 use Rattle.classes.specs.Class.{codeOf, isClass}
+use Rattle.classes.specs.Classify.{countsOf}
 use Rattle.measure.specs.declared.powers.Level.{Level}
 use Rattle.measure.specs.declared.residual.ResidualCheck.{ResidualCheck}
 use Rattle.measure.specs.Powers.{power, powersOf}
@@ -103,3 +104,10 @@ blocks-inside iq fs nb i e = rw e (omega (arith, div-mul-le-self (samples iq) (w
 pub check-is : (w : List Float) (z : ℕ → Complex) (class : ℕ → BlockClass) (nb n : ℕ) (fs : Float) (fits : List ElementFit) (r : ResidualCheck)
     → nb ≡ n → Prepared w z class n → r ≡ residualIn w nb fs fits → r ≡ residualOf fs z class n fits
 check-is w z class nb n fs fits r e p h = h ∙ rw e (residual-prepared w z class n fs fits p)
+
+-- its counts are those of the classes
+pub blocks-counted : (fs : Float) (z : ℕ → Complex) (class : ℕ → BlockClass) (nb : ℕ) (fits : List ElementFit)
+    → let r = residualOf fs z class nb fits in
+    (r .«edge_blocks» ≡ countsOf class nb .edge) × (r .«interior_blocks» ≡ countsOf class nb .interior) × (r .«gap_blocks» ≡ countsOf class nb .gap)
+unfolding residualOf figuresOf
+blocks-counted fs z class nb fits = (length-picked _ _ nb, length-picked _ _ nb, length-picked _ _ nb)

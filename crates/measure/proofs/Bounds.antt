@@ -1,0 +1,135 @@
+-- The powers that the residual check ranks are amounts: finite and with the sign plus, so that no list of them holds a
+-- −0.0 or a NaN, and `total_cmp` order is the order of the values (`left-amount`, `left-ranked`). Gains of size at most
+-- 2 ^ 200 and at most 2 ^ 40 fits are asked for, and nothing of times, slopes and references. Assumes nothing.
+use Prim.Native.Nat.{ℕ, zero, suc, _+_, _-_, _*_, _^_, _≤_, _<_, min, max}
+use native.Mathlib.Nat.{suc-mul}
+use native.Mathlib.Decide.{decLt}
+use native.Mathlib.Omega.{arith}
+use mathlib.Core.Path.{_≡_, refl, sym, subst, _∙_}
+use mathlib.Core.Bool.{Bool, true, false, cond}
+use mathlib.Core.List.{List, [], _∷_, _++_}
+use lib.Dec.{T, lit≤}
+use lib.ListN.{length, getD, length-append, List·getD-append}
+use lib.Seq.{getD-at}
+use lib.Ieee.{Float, nan}
+use Rattle.float.specs.Ops.{_⊘_, of}
+use Rattle.float.specs.Size.{sized}
+use Rattle.float.proofs.Bounds.{beyond-whole}
+use Rattle.float.proofs.Amounts.{Amount, amount-squares}
+use Rattle.lists.specs.Those.{picked}
+use Rattle.lists.specs.Firsts.{firsts}
+use Rattle.complex.specs.declared.value.Complex.{Complex}
+use Rattle.complex.specs.Value.{cSub, cDiv}
+use Rattle.complex.proofs.Bounds.{CBounded, cbounded-more, cbounded-shift, cbounded-sub, cbounded-div}
+use Rattle.row.specs.Samples.{Iq}
+use Rattle.row.specs.Window.{Rate, windowOf, blocks}
+use Rattle.row.specs.Blocks.{blockMean}
+use Rattle.row.proofs.Steps.{step-low, step-high}
+use Rattle.row.proofs.Bounds.{Singles, block-bounded}
+use Rattle.rank.specs.declared.Percentile.the-variants.{Value}
+use Rattle.rank.specs.Percentile.{percentileOf}
+use Rattle.rank.proofs.Among.{percentile-keeps}
+use Rattle.fits.specs.declared.fit.ElementFit.{ElementFit}
+use Rattle.fits.specs.Lists.{fitAt, fitsIn}
+use Rattle.synth.specs.Span.{spanOf}
+use Rattle.synth.specs.Baseband.{synthAt}
+use Rattle.synth.proofs.Bounds.{synth-sized}
+use Rattle.classes.specs.declared.class.BlockClass.{BlockClass}
+use Rattle.classes.specs.Class.{isClass}
+use Rattle.measure.specs.Powers.{power, powersOf}
+use Rattle.measure.specs.Left.{takenFrom, lessFit, lessFits, residualMean}
+
+-- ---- gains that question 7 lets pass
+
+pub record Gain (f : ElementFit) : Type 0 where
+  pub re-part : T (sized (f .gain .re))
+  pub im-part : T (sized (f .gain .im))
+
+pub data Gains : List ElementFit → Type 0 where
+  none : Gains []
+  more : {f : ElementFit} {fits : List ElementFit} → Gain f → Gains fits → Gains (f ∷ fits)
+
+gains-end : (fits : List ElementFit) (f : ElementFit) → Gains fits → Gain f → Gains (fits ++ (f ∷ []))
+gains-end [] f none g = more g none
+gains-end (x ∷ fits) f (more h r) g = more h (gains-end fits f r g)
+
+-- of the first n of a lent list
+pub gains-of : (l : List Float) (n : ℕ) → ((k : ℕ) → k < n → Gain (fitAt l k)) → Gains (fitsIn l n)
+unfolding fitsIn firsts
+gains-of l zero h = none
+gains-of l (suc n) h = gains-end (firsts (fitAt l) n) (fitAt l n) (gains-of l n (λ k b. h k (omega arith))) (h n (omega arith))
+
+-- ---- what is left of a mean
+
+module _ (fs : Float) (len nb : ℕ) (some : 1 ≤ len) (short : len ≤ 512) where
+  term-bounded : (f : ElementFit) (k : ℕ) → Gain f → CBounded 303 1 (cDiv (synthAt fs f k) (of len))
+  term-bounded f k g =
+      cbounded-shift 3 {k = 300} {a = 1} (cbounded-div (synth-sized fs f k (g .re-part) (g .im-part)) (beyond-whole len some (omega arith)) (lit≤ tt) (lit≤ tt))
+
+  taken-bounded : (f : ElementFit) (z : Complex) (p n : ℕ) {a : ℕ} → Gain f → CBounded 303 a z → a + n ≤ 2 ^ 53 → CBounded 303 (a + n) (takenFrom fs len f z p n)
+  unfolding takenFrom
+  taken-bounded f z p zero {a} g c h = cbounded-more c (omega arith) (lit≤ tt)
+  taken-bounded f z p (suc n) {a} g c h =
+      let next : a + suc n ≡ a + n + 1 = omega arith in
+      subst (λ m. CBounded 303 m (cSub (takenFrom fs len f z p n) (cDiv (synthAt fs f (p + n)) (of len)))) (sym next)
+      (cbounded-sub (taken-bounded f z p n g c (omega arith)) (term-bounded f (p + n) g) (omega arith) (lit≤ tt))
+
+  less-bounded : (f : ElementFit) (b : ℕ) (z : Complex) {a : ℕ} → Gain f → CBounded 303 a z → a + 512 ≤ 2 ^ 53 → CBounded 303 (a + 512) (lessFit fs len nb f b z)
+  unfolding lessFit
+  less-bounded f b z {a} g c h =
+      let s = spanOf fs (nb * len) f in
+      let n = min (s .hi) (b * len + len) - max (s .lo) (b * len) in
+      let fewer : n ≤ 512 = omega arith in
+      cbounded-more (taken-bounded f z (max (s .lo) (b * len)) n g c (omega arith)) (omega arith) (lit≤ tt)
+
+  pub left-bounded : (fits : List ElementFit) (b : ℕ) (z : Complex) {a : ℕ} → Gains fits → CBounded 303 a z → a + length fits * 512 ≤ 2 ^ 53
+      → CBounded 303 (a + length fits * 512) (lessFits fs len nb fits b z)
+  unfolding lessFits
+  left-bounded [] b z {a} g c h = cbounded-more c (omega arith) (lit≤ tt)
+  left-bounded (f ∷ fits) b z {a} (more g r) c h =
+      let next : a + suc (length fits) * 512 ≡ a + 512 + length fits * 512 = omega arith in
+      subst (λ m. CBounded 303 m (lessFits fs len nb fits b (lessFit fs len nb f b z))) (sym next)
+      (left-bounded fits b (lessFit fs len nb f b z) r (less-bounded f b z g c (omega arith)) (omega arith))
+
+-- ---- the powers
+
+-- what holds of each value of a row holds of those that are picked
+picked-holds : (P : Float → Type 0) (p : ℕ → Bool) (f : ℕ → Float) (n : ℕ) → ((k : ℕ) → k < n → P (f k)) → (i : ℕ) → i < length (picked p f n) → P (getD (picked p f n) i nan)
+unfolding picked
+picked-holds P p f zero h i l = absurd (never l)
+  where
+    never : i < 0 → ⊥
+    never q = omega arith
+picked-holds P p f (suc n) h i l = go (p n) (picked-holds P p f n (λ k b. h k (omega arith))) l
+  where
+    before : List Float
+    before = picked p f n
+
+    last : Dec (i < length before) → (i < length before → P (getD before i nan)) → i < length before + 1 → P (getD (before ++ (f n ∷ [])) i nan)
+    last (yes b) less q = subst P (sym (List·getD-append before (f n ∷ []) nan i b)) (less b)
+    last (no b) less q = let here : i ≡ length before = omega arith in subst P (sym (getD-at before (f n) [] nan i (sym here))) (h n (omega arith))
+
+    go : (t : Bool) → ((j : ℕ) → j < length before → P (getD before j nan)) → i < length (before ++ cond t (f n ∷ []) []) → P (getD (before ++ cond t (f n ∷ []) []) i nan)
+    go true less q = last (decLt i (length before)) (less i) (rw length-append at q)
+    go false less q = let b : i < length before = omega (arith, length-append before []) in subst P (sym (List·getD-append before [] nan i b)) (less i b)
+
+module _ (iq : List Float) (fs cyc : Float) (fits : List ElementFit) (s : Singles iq) (q : Iq iq) (r : Rate fs) (g : Gains fits) (few : length fits ≤ 2 ^ 40) where
+  abbrev left : ℕ → Complex
+  left = residualMean fs (blocks iq (windowOf fs)) fits (blockMean iq cyc (windowOf fs))
+
+  pub left-amount : (b : ℕ) → b < blocks iq (windowOf fs) → Amount (power left b)
+  left-amount b h =
+      let low = step-low fs in
+      let high = step-high fs r in
+      let mean : CBounded 303 2 (blockMean iq cyc (windowOf fs) b) = cbounded-more (block-bounded iq cyc (windowOf fs) b s q (omega arith) h) (lit≤ tt) (lit≤ tt) in
+      let all : CBounded 303 (2 + length fits * 512) (left b) = left-bounded fs (windowOf fs) (blocks iq (windowOf fs)) (omega arith) (omega arith) fits b (blockMean iq cyc (windowOf fs) b) g mean (omega arith) in
+      let small : CBounded 327 (2 ^ 26) (left b) = cbounded-shift 24 {k = 303} {a = 2 ^ 26} (cbounded-more all (omega arith) (lit≤ tt)) in
+      amount-squares (small .re-part) (small .im-part) (lit≤ tt) (lit≤ tt)
+
+  -- each list of them, and what is ranked in it
+  pub left-powers : (class : ℕ → BlockClass) (c : BlockClass) (i : ℕ) → i < length (powersOf c class left (blocks iq (windowOf fs)))
+      → Amount (getD (powersOf c class left (blocks iq (windowOf fs))) i nan)
+  left-powers class c = picked-holds Amount (λ b. isClass c (class b)) (power left) (blocks iq (windowOf fs)) left-amount
+
+  pub left-ranked : (class : ℕ → BlockClass) (c : BlockClass) (p v : Float) → percentileOf (powersOf c class left (blocks iq (windowOf fs))) p ≡ Value v → Amount v
+  left-ranked class c p v e = percentile-keeps Amount (powersOf c class left (blocks iq (windowOf fs))) p v (left-powers class c) e
