@@ -23,7 +23,7 @@ use Rattle.classes.specs.declared.class.BlockClass.the-variants.{Gap, Interior}
 use Rattle.measure.specs.declared.offset.Offset.{Offset}
 use Rattle.measure.specs.declared.offset.Offset.the-variants.{Hz, Absent}
 use Rattle.measure.specs.Powers.{power}
-use Rattle.measure.specs.Pairs.{above, strong, before, pairAt, pairsOf, IsPair, pairBlocks}
+use Rattle.measure.specs.Pairs.{above, strong, preceded, pairAt, pairsOf, IsPair, pairBlocks}
 use Rattle.measure.specs.Offset.{f0Of, strongest, powerAt, offsetFrom}
 use Rattle.measure.specs.Evidence.{isIn, evidenceWith, evidenceBy, meanAt, referenceOf, evidenceOf}
 use Rattle.measure.proofs.Counted.{count-there}
@@ -33,7 +33,7 @@ use Rattle.measure.proofs.Counted.{count-there}
 module _ (gap : ℕ → Bool) (z : ℕ → Complex) (ref : Float) (nb : ℕ) where
   -- a pair that ends at a block begins at the one before
   pair-is : (b : ℕ) → b < nb → pairAt (strong gap z ref) b ≡ true → (a : ℕ) × IsPair gap z ref nb a
-  unfolding pairAt before above
+  unfolding pairAt preceded above
   pair-is zero h e = absurd (false≢true e)
   pair-is (suc a) h e =
       let s = strong gap z ref in
@@ -51,7 +51,7 @@ module _ (gap : ℕ → Bool) (z : ℕ → Complex) (ref : Float) (nb : ℕ) whe
       )
 
   is-pair : (a : ℕ) → IsPair gap z ref nb a → pairAt (strong gap z ref) (a + 1) ≡ true
-  unfolding pairAt before above
+  unfolding pairAt preceded above
   is-pair a p =
       let g : gap (suc a) ≡ true = rw (add-one a) at (p .second-gap) in
       let h : lt (PAIR_FACTOR ⊗ ref) (power z (suc a)) ≡ true = rw (add-one a) at (p .second-above) in

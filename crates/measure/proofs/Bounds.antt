@@ -30,7 +30,7 @@ use Rattle.rank.specs.declared.Percentile.the-variants.{Value}
 use Rattle.rank.specs.Percentile.{percentileOf}
 use Rattle.rank.proofs.Among.{percentile-keeps}
 use Rattle.fits.specs.declared.fit.ElementFit.{ElementFit}
-use Rattle.fits.specs.Lists.{fitAt, fitsIn}
+use Rattle.fits.specs.List.{fitAt, fitsIn}
 use Rattle.synth.specs.Span.{spanOf}
 use Rattle.synth.specs.Baseband.{synthAt}
 use Rattle.synth.proofs.Bounds.{synth-sized}

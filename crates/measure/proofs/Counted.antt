@@ -9,7 +9,6 @@ use mathlib.Core.Bool.{Bool, true, false}
 use mathlib.Core.List.{List, [], _∷_, _++_, append-nil}
 use Rattle.lists.specs.Count.{countTo}
 use Rattle.lists.specs.Those.{picked}
-use Rattle.lists.proofs.Count.{count-most}
 
 module _ (p : ℕ → Bool) where
   pub count-none : 0 ≡ countTo p 0
@@ -26,9 +25,6 @@ module _ (p : ℕ → Bool) where
 
   pub count-done : (n k m : ℕ) → m ≡ countTo p k → k ≤ n → n ≤ k → m ≡ countTo p n
   count-done n k m c h g = let all : k ≡ n = omega arith in rw all at c
-
-  pub count-few : (n m : ℕ) → m ≡ countTo p n → m ≤ n
-  count-few n m c = rw c (count-most p n)
 
   -- one that is there is counted
   pub count-there : (n k : ℕ) → k < n → p k ≡ true → 0 < countTo p n

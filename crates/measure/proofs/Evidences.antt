@@ -52,3 +52,9 @@ evidence-prepared iq fs carrier class nb w p =
     (λ b h. class-prepared w (meanAt iq fs carrier) class nb Gap b p h) (λ b h g. p .mean b h) (λ c b h g. refl)
     (classIn w (2 * nb) Interior) (isIn Interior class) (λ b h. class-prepared w (meanAt iq fs carrier) class nb Interior b p h)
     (λ b h g. p .mean b h) fs carrier
+
+pub check-is : (iq : List Float) (fs carrier : Float) (class : ℕ → BlockClass) (nb : ℕ) (w : List Float) (r : SecondCarrierEvidence)
+    → nb ≡ blocks iq (windowOf fs) → Prepared w (meanAt iq fs carrier) class (blocks iq (windowOf fs))
+    → r ≡ evidenceBy (meanAt iq fs) fs carrier (classIn w (2 * nb) Gap) (classIn w (2 * nb) Interior) (zAt w) nb
+    → r ≡ evidenceOf iq fs carrier class (blocks iq (windowOf fs))
+check-is iq fs carrier class nb w r n p e = e ∙ rw n (evidence-prepared iq fs carrier class (blocks iq (windowOf fs)) w p)

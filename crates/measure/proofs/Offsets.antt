@@ -24,7 +24,7 @@ use Rattle.measure.specs.Offset.{powerAt, stronger, strongest, offsetFro
 use Rattle.measure.specs.Evidence.{meanAt}
 use Rattle.measure.proofs.Counted.{picked-yes, picked-no}
 
--- ---- the loop: before it, a turn that adds a figure, one that does not, and after it. −0.0 of the code is 0.0 negated.
+-- ---- the loop: before it, a turn that adds a figure, one that does not, and after it. The code's −0.0 is 0.0 negated.
 
 module _ (p : ℕ → Bool) (f : ℕ → Float) where
   pub over-none : neg zero ≡ sumOver f minus-zero (picked p (λ k. k) 0)

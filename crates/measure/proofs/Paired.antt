@@ -20,7 +20,8 @@ use Rattle.complex.specs.declared.value.Complex.{Complex}
 use Rattle.complex.specs.Value.{cZero, cAdd, cNorm, cNormSqr}
 use Rattle.measure.specs.declared.pairs.Gaps.{Gaps}
 use Rattle.measure.specs.declared.pairs.Pairs.{Pairs}
-use Rattle.measure.specs.Pairs.{above, gapsOf, before, after, pairAt, lagged, products, cOver, pairsOf, pairPlus, inPair}
+use Rattle.measure.specs.Inner.{pairPlus}
+use Rattle.measure.specs.Pairs.{above, gapsOf, preceded, followed, pairAt, lagged, products, cOver, pairsOf, inPair}
 use Rattle.measure.proofs.Counted.{count-yes, count-no, count-done, picked-yes, picked-no}
 
 -- ---- the ways out of the tests
@@ -35,54 +36,54 @@ module _ (gap : ℕ → Bool) (z : ℕ → Complex) (level : Float) (b : ℕ) wh
   above-no t e h = rw (← e, h)
 
 module _ (s : ℕ → Bool) where
-  pub before-none : (b : ℕ) → b ≡ 0 → false ≡ before s b
-  unfolding before
-  before-none b e = rw e
+  pub preceded-none : (b : ℕ) → b ≡ 0 → false ≡ preceded s b
+  unfolding preceded
+  preceded-none b e = rw e
 
-  pub before-some : (b : ℕ) (t : Bool) → (b ≡ 0 → ⊥) → t ≡ s (b - 1) → t ≡ before s b
-  unfolding before
-  before-some zero t h e = absurd (h refl)
-  before-some (suc a) t h e = let here : suc a - 1 ≡ a = omega arith in rw here at e
+  pub preceded-some : (b : ℕ) (t : Bool) → (b ≡ 0 → ⊥) → t ≡ s (b - 1) → t ≡ preceded s b
+  unfolding preceded
+  preceded-some zero t h e = absurd (h refl)
+  preceded-some (suc a) t h e = let here : suc a - 1 ≡ a = omega arith in rw here at e
 
   -- a block before b is there
-  pub before-there : (b : ℕ) → before s b ≡ true → 1 ≤ b
-  unfolding before
-  before-there zero e = absurd (false≢true e)
-  before-there (suc a) e = omega arith
+  pub preceded-there : (b : ℕ) → preceded s b ≡ true → 1 ≤ b
+  unfolding preceded
+  preceded-there zero e = absurd (false≢true e)
+  preceded-there (suc a) e = omega arith
 
   module _ (nb b : ℕ) where
-    pub after-some : (t : Bool) → b + 1 < nb → t ≡ s (b + 1) → t ≡ after s nb b
-    unfolding after
-    after-some t h e = rw (lt-ltb (b + 1) nb h) e
+    pub followed-some : (t : Bool) → b + 1 < nb → t ≡ s (b + 1) → t ≡ followed s nb b
+    unfolding followed
+    followed-some t h e = rw (lt-ltb (b + 1) nb h) e
 
-    pub after-none : nb ≤ b + 1 → false ≡ after s nb b
-    unfolding after
-    after-none h = rw (le-ltb (b + 1) nb h)
+    pub followed-none : nb ≤ b + 1 → false ≡ followed s nb b
+    unfolding followed
+    followed-none h = rw (le-ltb (b + 1) nb h)
 
     pub in-no : (t : Bool) → t ≡ s b → t ≡ false → false ≡ inPair s nb b
     unfolding inPair
     in-no t e h = rw (← e, h)
 
-    pub in-first : (t u : Bool) → t ≡ s b → t ≡ true → u ≡ before s b → u ≡ true → true ≡ inPair s nb b
+    pub in-first : (t u : Bool) → t ≡ s b → t ≡ true → u ≡ preceded s b → u ≡ true → true ≡ inPair s nb b
     unfolding inPair
     in-first t u e h f g = rw (← e, h, ← f, g)
 
-    pub in-second : (t u v : Bool) → t ≡ s b → t ≡ true → u ≡ before s b → u ≡ false → v ≡ after s nb b → v ≡ inPair s nb b
+    pub in-second : (t u v : Bool) → t ≡ s b → t ≡ true → u ≡ preceded s b → u ≡ false → v ≡ followed s nb b → v ≡ inPair s nb b
     unfolding inPair
     in-second t u v e h f g i = rw (← e, h, ← f, g, ← i)
 
-  pub pair-yes : (b : ℕ) (t u : Bool) → t ≡ before s b → t ≡ true → u ≡ s b → u ≡ pairAt s b
+  pub pair-yes : (b : ℕ) (t u : Bool) → t ≡ preceded s b → t ≡ true → u ≡ s b → u ≡ pairAt s b
   unfolding pairAt
   pair-yes b t u e h f = rw (← e, h, ← f)
 
-  pub pair-no : (b : ℕ) (t : Bool) → t ≡ before s b → t ≡ false → false ≡ pairAt s b
+  pub pair-no : (b : ℕ) (t : Bool) → t ≡ preceded s b → t ≡ false → false ≡ pairAt s b
   unfolding pairAt
   pair-no b t e h = rw (← e, h)
 
   -- a pair ends at no block 0
   pub pair-later : (b : ℕ) → pairAt s b ≡ true → 1 ≤ b
   unfolding pairAt
-  pair-later b e = before-there b (and-left (before s b) (s b) e)
+  pair-later b e = preceded-there b (and-left (preceded s b) (s b) e)
 
 -- ---- after the loop that counts the gap blocks and the hot ones among them
 

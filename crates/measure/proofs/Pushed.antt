@@ -1,6 +1,6 @@
 -- The Rust's loop over `gap_idx.windows(2)` comes to the pairs of specs/Pairs.antt: the windows that pass are the
--- pairs, in order, so that it sums the same products (`rust-products`), and what it pushes are the blocks in pairs, each
--- once, in order (`rust-blocks`). Assumes nothing.
+-- pairs, in order, so that it sums the same products (`rust-products`), and what it pushes are the blocks in pairs,
+-- each once, in order (`rust-blocks`). Assumes nothing.
 use Prim.Native.Nat.{ℕ, zero, suc, _+_, _-_, _≤_, _<_}
 use native.Mathlib.Numerals.{add-one}
 use native.Mathlib.Omega.{arith}
@@ -15,7 +15,7 @@ use Rattle.lists.proofs.Those.{those-append, picked-cong}
 use Rattle.complex.specs.declared.value.Complex.{Complex}
 use Rattle.complex.specs.Value.{cMul, cConj}
 use Rattle.measure.specs.Powers.{power}
-use Rattle.measure.specs.Pairs.{above, before, after, pairAt, products, inPair, pairBlocks}
+use Rattle.measure.specs.Pairs.{above, preceded, followed, pairAt, products, inPair, pairBlocks}
 use Rattle.measure.specs.Pushed.{Window, window, gapIdx, windows, passes, passing, lastIs, push, pushed}
 
 -- ---- one more at the end
@@ -68,7 +68,7 @@ module _ (gap loud : ℕ → Bool) where
 
   -- the window that block n ends, if it is a gap block
   next : (n : ℕ) → gap n ≡ true → those (passes loud) (ended (gapIdx gap n) n) ≡ cond (pairAt strong n) (window (n - 1) n ∷ []) []
-  unfolding those picked pairAt before ended
+  unfolding those picked pairAt preceded ended
   next zero e = refl
   next (suc k) e = go (gap k) refl
     where
@@ -86,7 +86,7 @@ module _ (gap loud : ℕ → Bool) where
   windows-are (suc n) = go (gap n) refl (windows-are n)
     where
       no : gap n ≡ false → pairAt strong n ≡ false
-      no e = rw e (and-false (before strong n))
+      no e = rw e (and-false (preceded strong n))
 
       go : (t : Bool) → gap n ≡ t → passing gap loud n ≡ picked (pairAt strong) (λ b. window (b - 1) b) n
           → those (passes loud) (windows (gapIdx gap n ++ cond t (n ∷ []) [])) ≡ picked (pairAt strong) (λ b. window (b - 1) b) n ++ cond (pairAt strong n) (window (n - 1) n ∷ []) []
@@ -123,32 +123,32 @@ turn l k true true false h = rw (append-nil l, h, append-assoc l (k ∷ []) (suc
 module _ (s : ℕ → Bool) where
   -- whether a block is in a pair is settled by the block after it
   settled : (n b : ℕ) → b + 1 < n → inPair s (suc n) b ≡ inPair s n b
-  unfolding inPair after
+  unfolding inPair followed
   settled n b h = rw (lt-ltb (b + 1) n h, lt-ltb (b + 1) (suc n) (omega arith))
 
   -- the last block, and the one before it
-  in-last : (k : ℕ) → inPair s (suc k) k ≡ (s k && (before s k || false))
-  unfolding inPair after
+  in-last : (k : ℕ) → inPair s (suc k) k ≡ (s k && (preceded s k || false))
+  unfolding inPair followed
   in-last k = rw (le-ltb (k + 1) (suc k) (omega arith))
 
-  in-next : (k : ℕ) → inPair s (suc (suc k)) k ≡ (s k && (before s k || s (suc k)))
-  unfolding inPair after
+  in-next : (k : ℕ) → inPair s (suc (suc k)) k ≡ (s k && (preceded s k || s (suc k)))
+  unfolding inPair followed
   in-next k = rw (lt-ltb (k + 1) (suc (suc k)) (omega arith), add-one k)
 
   ends : ℕ → List Window
   ends n = picked (pairAt s) (λ b. window (b - 1) b) n
 
   more : (k : ℕ) → pushed [] (ends (suc k)) ≡ pairBlocks s (suc k) → pushed [] (ends (suc (suc k))) ≡ pairBlocks s (suc (suc k))
-  unfolding ends picked pairAt before
+  unfolding ends picked pairAt preceded
   more k i =
       let back : suc k - 1 ≡ k = omega arith in
       let same : picked (inPair s (suc (suc k))) (λ b. b) k ≡ picked (inPair s (suc k)) (λ b. b) k =
       picked-cong (inPair s (suc (suc k))) (inPair s (suc k)) (λ b. b) (λ b. b) k (λ b h. settled (suc k) b (omega arith)) (λ b h e. refl) in
       rw (pushed-turn [] (ends (suc k)) (s k && s (suc k)) (window (suc k - 1) (suc k)), i, in-last k, back, same, in-next k, in-last (suc k))
-      (turn (picked (inPair s (suc k)) (λ b. b) k) k (s k) (s (suc k)) (before s k) (last-far (inPair s (suc k)) k k (omega arith)))
+      (turn (picked (inPair s (suc k)) (λ b. b) k) k (s k) (s (suc k)) (preceded s k) (last-far (inPair s (suc k)) k k (omega arith)))
 
   pub pushed-are : (nb : ℕ) → pushed [] (picked (pairAt s) (λ b. window (b - 1) b) nb) ≡ pairBlocks s nb
-  unfolding ends picked pushed pairAt before inPair after
+  unfolding ends picked pushed pairAt preceded inPair followed
   pushed-are zero = refl
   pushed-are (suc zero) = rw (in-last 0, and-false (s 0))
   pushed-are (suc (suc k)) = more k (pushed-are (suc k))

@@ -97,11 +97,8 @@ module _ (w u v : List Float) (codes : ℕ) (code : Float) (f g : ℕ → Float)
   same-code : (b : ℕ) → b < nb → hasCode u codes code b ≡ hasCode w codes code b
   same-code b l = ap (λ x. eq x code) (first-below (codes + b) (omega arith))
 
-  pub few-first : n ≤ nb
+  few-first : n ≤ nb
   few-first = rw (first .0) (count-most (hasCode w codes code) nb)
-
-  pub few-second : m ≤ nb
-  few-second = rw (second .0) (count-most (hasCode u codes code) nb)
 
   length-first : length u ≡ length w
   length-first = rw (first .1) (length-keep w out (hasCode w codes code) f nb)

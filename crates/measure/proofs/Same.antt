@@ -22,21 +22,21 @@ use Rattle.complex.specs.Value.{cMul, cConj, cNormSqr}
 use Rattle.row.specs.Window.{windowOf}
 use Rattle.measure.specs.Powers.{power}
 use Rattle.measure.specs.Reference.{sideOf, referenceFrom, referenceBy}
-use Rattle.measure.specs.Pairs.{above, hot, strong, gapsOf, before, after, pairAt, lagged, products, pairsOf, inPair, pairBlocks}
+use Rattle.measure.specs.Pairs.{above, hot, strong, gapsOf, preceded, followed, pairAt, lagged, products, pairsOf, inPair, pairBlocks}
 use Rattle.measure.specs.Offset.{powerAt, stronger, strongest, offsetFrom}
 use Rattle.measure.specs.Evidence.{evidenceWith, evidenceBy}
 
 -- ---- tests that agree have the same pairs
 
 module _ (s t : ℕ → Bool) (nb : ℕ) (same : (b : ℕ) → b < nb → s b ≡ t b) where
-  before-same : (b : ℕ) → b < nb → before s b ≡ before t b
-  unfolding before
-  before-same zero h = refl
-  before-same (suc a) h = same a (omega arith)
+  preceded-same : (b : ℕ) → b < nb → preceded s b ≡ preceded t b
+  unfolding preceded
+  preceded-same zero h = refl
+  preceded-same (suc a) h = same a (omega arith)
 
-  after-same : (b : ℕ) → after s nb b ≡ after t nb b
-  unfolding after
-  after-same b = go (ltb (b + 1) nb) refl
+  followed-same : (b : ℕ) → followed s nb b ≡ followed t nb b
+  unfolding followed
+  followed-same b = go (ltb (b + 1) nb) refl
     where
       go : (c : Bool) → ltb (b + 1) nb ≡ c → (c && s (b + 1)) ≡ (c && t (b + 1))
       go true e = same (b + 1) (ltb-true (b + 1) nb e)
@@ -44,28 +44,28 @@ module _ (s t : ℕ → Bool) (nb : ℕ) (same : (b : ℕ) → b < nb → s b �
 
   pub pair-same : (b : ℕ) → b < nb → pairAt s b ≡ pairAt t b
   unfolding pairAt
-  pair-same b h = rw (before-same b h, same b h)
+  pair-same b h = rw (preceded-same b h, same b h)
 
   in-same : (b : ℕ) → b < nb → inPair s nb b ≡ inPair t nb b
   unfolding inPair
-  in-same b h = rw (same b h, before-same b h, after-same b)
+  in-same b h = rw (same b h, preceded-same b h, followed-same b)
 
   pub blocks-same : pairBlocks s nb ≡ pairBlocks t nb
   blocks-same = picked-cong (inPair s nb) (inPair t nb) (λ b. b) (λ b. b) nb in-same (λ b h e. refl)
 
 -- both blocks of a pair are strong
 pub pair-first : (s : ℕ → Bool) (b : ℕ) → pairAt s b ≡ true → s (b - 1) ≡ true
-unfolding pairAt before
+unfolding pairAt preceded
 pair-first s zero e = absurd (false≢true e)
 pair-first s (suc a) e = let here : suc a - 1 ≡ a = omega arith in rw here (and-left (s a) (s (suc a)) e)
 
 pub pair-second : (s : ℕ → Bool) (b : ℕ) → pairAt s b ≡ true → s b ≡ true
 unfolding pairAt
-pair-second s b e = and-right (before s b) (s b) e
+pair-second s b e = and-right (preceded s b) (s b) e
 
 pub in-strong : (s : ℕ → Bool) (nb b : ℕ) → inPair s nb b ≡ true → s b ≡ true
 unfolding inPair
-in-strong s nb b e = and-left (s b) (before s b || after s nb b) e
+in-strong s nb b e = and-left (s b) (preceded s b || followed s nb b) e
 
 -- what is above a level is a gap block
 pub above-gap : (gap : ℕ → Bool) (z : ℕ → Complex) (level : Float) (b : ℕ) → above gap z level b ≡ true → gap b ≡ true

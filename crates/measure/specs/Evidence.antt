@@ -8,11 +8,14 @@ use lib.Ieee.{Float, lt}
 use Rattle.float.specs.Ops.{_⊘_, of, zero}
 use Rattle.complex.specs.declared.value.Complex.{Complex}
 use Rattle.complex.specs.Value.{cNorm}
-use Rattle.row.specs.Window.{windowOf}
+use Rattle.row.specs.Window.{windowOf, samples, blocks}
 use Rattle.row.specs.Blocks.{blockMean}
+use Rattle.elements.specs.declared.element.KeyedElement.{KeyedElement}
+use Rattle.fits.specs.declared.fit.ElementFit.{ElementFit}
 use Rattle.classes.specs.declared.class.BlockClass.{BlockClass}
 use Rattle.classes.specs.declared.class.BlockClass.the-variants.{Gap, Interior}
 use Rattle.classes.specs.Class.{isClass}
+use Rattle.classes.specs.Classify.{classOf}
 use Rattle.measure.specs.declared.pairs.Gaps.{Gaps}
 use Rattle.measure.specs.declared.pairs.Pairs.{Pairs}
 use Rattle.measure.specs.declared.evidence.SecondCarrierEvidence.{SecondCarrierEvidence}
@@ -64,3 +67,7 @@ module _ (iq : List Float) (fs : Float) where
 
     unfoldable pub evidenceOf : SecondCarrierEvidence
     evidenceOf = evidenceBy meanAt fs carrier (isIn Gap class) (isIn Interior class) (meanAt carrier) nb
+
+-- `second_carrier_evidence`, of a recording at a rate and an estimate: its carrier, fits and elements
+abbrev pub evidenceCheckOf : List Float → Float → Float → List ElementFit → List KeyedElement → SecondCarrierEvidence
+evidenceCheckOf iq fs carrier fits elements = evidenceOf iq fs carrier (classOf fs (samples iq) fits elements) (blocks iq (windowOf fs))

@@ -5,14 +5,16 @@ use mathlib.Core.Bool.{Bool}
 use mathlib.Core.List.{List}
 use lib.ListN.{length, getD, take}
 use lib.Ieee.{Float, nan, eq}
+use Rattle.float.specs.Ops.{_⊕_}
 use Rattle.lists.specs.Those.{picked}
 use Rattle.complex.specs.declared.value.Complex.{Complex}
-use Rattle.complex.specs.Value.{cNormSqr}
+use Rattle.complex.specs.Value.{cAdd, cNormSqr, cNorm}
 use Rattle.complex.specs.Rows.{zAt}
 use Rattle.classes.specs.declared.class.BlockClass.{BlockClass}
 use Rattle.classes.specs.declared.class.BlockClass.the-variants.{Edge, Interior, Gap}
 use Rattle.classes.specs.Class.{codeOf}
 use Rattle.fits.specs.declared.fit.ElementFit.{ElementFit}
+use Rattle.measure.specs.declared.pairs.Pairs.{Pairs}
 use Rattle.measure.specs.declared.powers.Level.{Level}
 use Rattle.measure.specs.declared.residual.ResidualCheck.{ResidualCheck}
 use Rattle.measure.specs.Powers.{power}
@@ -62,3 +64,7 @@ unfoldable pub residualIn : List Float → ℕ → Float → List ElementFit →
 residualIn w nb fs fits =
     let left = power (residualMean fs nb fits (zAt w)) in
     figuresOf (picked (classIn w (2 * nb) Edge) left nb) (picked (classIn w (2 * nb) Interior) left nb) (picked (classIn w (2 * nb) Gap) left nb)
+
+-- what was found of the pairs, with one more pair, whose product is p
+abbrev pub pairPlus : Pairs → Complex → Pairs
+pairPlus a p = record { count = a .count + 1; sum = cAdd (a .sum) p; size = a .size ⊕ cNorm p }

@@ -6,7 +6,7 @@ use mathlib.Core.Bool.{Bool, true, false, _&&_, _||_}
 use mathlib.Core.List.{List, [], _∷_}
 use lib.Dec.{ltb}
 use lib.Ieee.{Float, lt}
-use Rattle.float.specs.Ops.{_⊕_, _⊗_}
+use Rattle.float.specs.Ops.{_⊗_}
 use Rattle.float.specs.Ops as float
 use Rattle.lists.specs.Count.{countTo}
 use Rattle.lists.specs.Those.{picked}
@@ -46,17 +46,17 @@ gapsOf gap z ref nb = record { blocks = countTo gap nb; hot = countTo (hot gap z
 -- ---- pairs, of a test `s` that tells the strong gap blocks
 
 -- the block before block b passes; there is none before block 0
-unfoldable pub before : (ℕ → Bool) → ℕ → Bool
-before s zero = false
-before s (suc a) = s a
+unfoldable pub preceded : (ℕ → Bool) → ℕ → Bool
+preceded s zero = false
+preceded s (suc a) = s a
 
 -- the block after block b of nb passes
-unfoldable pub after : (ℕ → Bool) → ℕ → ℕ → Bool
-after s nb b = ltb (b + 1) nb && s (b + 1)
+unfoldable pub followed : (ℕ → Bool) → ℕ → ℕ → Bool
+followed s nb b = ltb (b + 1) nb && s (b + 1)
 
 -- a pair ends at block b: b − 1 and b are consecutive gap blocks, both strong
 unfoldable pub pairAt : (ℕ → Bool) → ℕ → Bool
-pairAt s b = before s b && s b
+pairAt s b = preceded s b && s b
 
 -- `p`: the product of the pair that ends at block b
 abbrev pub lagged : (ℕ → Complex) → ℕ → Complex
@@ -76,13 +76,9 @@ unfoldable pub pairsOf : (ℕ → Bool) → (ℕ → Complex) → ℕ → Pairs
 pairsOf s z nb =
     record { count = countTo (pairAt s) nb; sum = cOver cZero (products s z nb); size = sumOver cNorm float.zero (products s z nb) }
 
--- the same with one more pair, whose product is p
-abbrev pub pairPlus : Pairs → Complex → Pairs
-pairPlus a p = record { count = a .count + 1; sum = cAdd (a .sum) p; size = a .size ⊕ cNorm p }
-
 -- block b is in a pair: it is strong, and so is a neighbour
 unfoldable pub inPair : (ℕ → Bool) → ℕ → ℕ → Bool
-inPair s nb b = s b && (before s b || after s nb b)
+inPair s nb b = s b && (preceded s b || followed s nb b)
 
 -- `pair_blocks`: the blocks that are in a pair, each once, in order
 abbrev pub pairBlocks : (ℕ → Bool) → ℕ → List ℕ

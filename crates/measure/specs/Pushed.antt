@@ -1,5 +1,5 @@
--- The Rust's own way to the pairs and to `pair_blocks`. No contract cites it: `windows-are` and `pushed-are` of the
--- proofs say that it comes to the pairs and the blocks of specs/Pairs.antt. Definitions only.
+-- The Rust's own way to the pairs and to `pair_blocks`. No contract cites it: `rust-products` and `rust-blocks` of the
+-- proofs say that it comes to the products and the blocks of specs/Pairs.antt. Definitions only.
 use Prim.Native.Nat.{ℕ, _+_}
 use mathlib.Core.Bool.{Bool, false, _&&_, cond}
 use mathlib.Core.List.{List, [], _∷_, _++_}

@@ -5,6 +5,7 @@ use crate::pairs::Gaps;
 use crate::pairs::Pairs;
 use crate::pairs::count_gaps;
 use crate::pairs::sum_pairs;
+use crate::prepare::prepare;
 use crate::reference::find_reference;
 use row::edge_step;
 ghost use mathlib.Core.Path.{_≡_};
@@ -13,10 +14,12 @@ ghost use lib.ListN.{length};
 ghost use Rattle.trig.specs.Sine.{sineTable};
 ghost use Rattle.complex.specs.Rows.{zAt};
 ghost use Rattle.row.specs.Samples.{Iq};
-ghost use Rattle.row.specs.Window.{Rate, windowOf, blocks};
+ghost use Rattle.row.specs.Window.{Rate, windowOf, blocks, stepBlocks};
+ghost use Rattle.elements.specs.Element.{elementsIn};
+ghost use Rattle.fits.specs.List.{fitsIn};
 ghost use Rattle.classes.specs.declared.class.BlockClass.the-variants.{Gap, Interior};
 ghost use Rattle.measure.specs.Inner.{classIn};
-ghost use Rattle.measure.specs.Evidence.{hotFraction, coherenceOf, evidenceWith, evidenceBy, meanAt};
+ghost use Rattle.measure.specs.Evidence.{hotFraction, coherenceOf, evidenceWith, evidenceBy, meanAt, evidenceCheckOf};
 
 // Rust: SecondCarrierEvidence.
 pub struct SecondCarrierEvidence {
@@ -76,8 +79,7 @@ fn evidence_with(
     }
 }
 
-// Rust: second_carrier_evidence, which computes the means and the classes itself. Here the work slice holds them: the
-// nb means at the carrier as complex numbers, then the numbers of the classes; what follows is written.
+// Rust: second_carrier_evidence, past the block means and their classes, which stand in a prepared work slice.
 pub fn evidence(
     iq: &[f32],
     fs: f64,
@@ -97,4 +99,38 @@ pub fn evidence(
     let len = 8 * edge_step(fs);
     let reference = find_reference(iq, fs, carrier, len, work, nb, sine);
     evidence_with(iq, fs, carrier, len, work, nb, reference, sine)
+}
+
+// Rust: second_carrier_evidence. The means, the classes and the powers are in the lent work slice.
+pub fn second_carrier_evidence(
+    iq: &[f32],
+    fs: f64,
+    carrier: f64,
+    elements: &[f64],
+    element_count: usize,
+    fits: &[f64],
+    fit_count: usize,
+    work: &mut [f64],
+    sine: &[u64; 1025],
+) -> SecondCarrierEvidence
+    requires { ⌜ Iq (now iq) ⌝ }
+    requires { ⌜ Rate fs ⌝ }
+    requires { ⌜ now sine ≡ sineTable ⌝ }
+    requires { ⌜ 4 * «element_count» ≤ length (now elements) ⌝ }
+    requires { ⌜ 8 * «fit_count» ≤ length (now fits) ⌝ }
+    requires { ⌜ 4 * stepBlocks (now iq) fs ≤ length (now work) ⌝ }
+    ensures { λ r. ⌜ r ≡ evidenceCheckOf (now (iq .entry)) fs carrier (fitsIn (now (fits .entry)) «fit_count») (elementsIn (now (elements .entry)) «element_count») ⌝ }
+{
+    let nb = prepare(
+        iq,
+        fs,
+        carrier,
+        elements,
+        element_count,
+        fits,
+        fit_count,
+        work,
+        sine,
+    );
+    evidence(iq, fs, carrier, work, nb, sine)
 }

@@ -11,6 +11,7 @@ pub mod reference;
 pub mod residual;
 
 pub use evidence::SecondCarrierEvidence;
+pub use evidence::second_carrier_evidence;
 pub use hypothesis::Hypothesis;
 pub use hypothesis::classify;
 pub use offset::Offset;

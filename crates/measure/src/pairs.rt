@@ -1,5 +1,5 @@
-// Hot gap blocks, and pairs of consecutive gap blocks, against a reference. The work slice of nb blocks holds their means
-// as complex numbers and then the numbers of their classes.
+// Hot gap blocks, and pairs of consecutive gap blocks, against a reference. The work slice of nb blocks holds their
+// means as complex numbers and then the numbers of their classes.
 use classes::BlockClass;
 use classes::is_class;
 use complex::Complex;
@@ -14,8 +14,8 @@ ghost use Rattle.complex.specs.Value.{cAdd, cNorm};
 ghost use Rattle.float.specs.Ops.{_⊕_, _⊗_};
 ghost use Rattle.constants.specs.Constants.{PAIR_FACTOR};
 ghost use Rattle.classes.specs.declared.class.BlockClass.the-variants.{Gap};
-ghost use Rattle.measure.specs.Inner.{classIn};
-ghost use Rattle.measure.specs.Pairs.{above, before, after, pairAt, inPair, lagged, gapsOf, strong, pairsOf, pairPlus};
+ghost use Rattle.measure.specs.Inner.{classIn, pairPlus};
+ghost use Rattle.measure.specs.Pairs.{above, preceded, followed, pairAt, inPair, lagged, gapsOf, strong, pairsOf};
 
 // How many gap blocks there are, and how many of them are hot.
 pub struct Gaps {
@@ -64,10 +64,10 @@ fn above(work: &[f64], nb: usize, level: f64, b: usize) -> bool
 }
 
 // The same of the block before block b ..
-fn before(work: &[f64], nb: usize, level: f64, b: usize) -> bool
+fn preceded(work: &[f64], nb: usize, level: f64, b: usize) -> bool
     requires { ⌜ b < nb ⌝ }
     requires { ⌜ 3 * nb ≤ length (now work) ⌝ }
-    ensures { λ r. ⌜ r ≡ before (above (classIn (now (work .entry)) (2 * nb) Gap) (zAt (now (work .entry))) level) b ⌝ }
+    ensures { λ r. ⌜ r ≡ preceded (above (classIn (now (work .entry)) (2 * nb) Gap) (zAt (now (work .entry))) level) b ⌝ }
 {
     if b == 0 {
         return false;
@@ -76,10 +76,10 @@ fn before(work: &[f64], nb: usize, level: f64, b: usize) -> bool
 }
 
 // .. and of the one after it.
-fn after(work: &[f64], nb: usize, level: f64, b: usize) -> bool
+fn followed(work: &[f64], nb: usize, level: f64, b: usize) -> bool
     requires { ⌜ b < nb ⌝ }
     requires { ⌜ 3 * nb ≤ length (now work) ⌝ }
-    ensures { λ r. ⌜ r ≡ after (above (classIn (now (work .entry)) (2 * nb) Gap) (zAt (now (work .entry))) level) nb b ⌝ }
+    ensures { λ r. ⌜ r ≡ followed (above (classIn (now (work .entry)) (2 * nb) Gap) (zAt (now (work .entry))) level) nb b ⌝ }
 {
     if b + 1 < nb {
         return above(work, nb, level, b + 1);
@@ -93,7 +93,7 @@ fn pair_at(work: &[f64], nb: usize, level: f64, b: usize) -> bool
     requires { ⌜ 3 * nb ≤ length (now work) ⌝ }
     ensures { λ r. ⌜ r ≡ pairAt (above (classIn (now (work .entry)) (2 * nb) Gap) (zAt (now (work .entry))) level) b ⌝ }
 {
-    if before(work, nb, level, b) {
+    if preceded(work, nb, level, b) {
         return above(work, nb, level, b);
     }
     false
@@ -106,10 +106,10 @@ pub fn in_pair(work: &[f64], nb: usize, level: f64, b: usize) -> bool
     ensures { λ r. ⌜ r ≡ inPair (above (classIn (now (work .entry)) (2 * nb) Gap) (zAt (now (work .entry))) level) nb b ⌝ }
 {
     if above(work, nb, level, b) {
-        if before(work, nb, level, b) {
+        if preceded(work, nb, level, b) {
             return true;
         }
-        return after(work, nb, level, b);
+        return followed(work, nb, level, b);
     }
     false
 }

@@ -4,10 +4,10 @@ use Rattle.measure.proofs.pairs.pair_at.Statement.{statement}
 use Rattle.measure.proofs.pairs.pair_at.Tie as tie
 
 returns : tie.Need-returns
-returns c = pair-yes _ _ _ _ (c .before .before .before2 .ensures) (c .before .if1 .taken) (c .above .ensures)
+returns c = pair-yes _ _ _ _ (c .before .before .preceded .ensures) (c .before .if1 .taken) (c .above .ensures)
 
 returns-2 : tie.Need-returns-2
-returns-2 c = pair-no _ _ _ (c .before .before2 .ensures) (c .if1 .left)
+returns-2 c = pair-no _ _ _ (c .before .preceded .ensures) (c .if1 .left)
 
 pub pair-at-spec : {M : Type 1} → statement M
 pair-at-spec = tie.close (tie.spec (λ c κs. search needs) (λ c κs. search needs) returns returns-2)

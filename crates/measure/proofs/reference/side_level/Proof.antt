@@ -6,7 +6,7 @@ use denote.Ref.{now}
 use lib.ListN.{length-take, length-drop}
 use borrow.Author.Needs.{needs}
 use Rattle.row.proofs.Means.{blocks-short}
-use Rattle.measure.proofs.Counted.{count-few}
+use Rattle.measure.proofs.Gathered.{gathered-few}
 use Rattle.measure.proofs.References.{both-held, both-below, side-is}
 use Rattle.measure.proofs.reference.side_level.Statement.{statement}
 use Rattle.measure.proofs.reference.side_level.Tie as tie
@@ -21,35 +21,35 @@ gap-powers-requires c κs =
     (s .pre .0, (s .pre .1 .0, (s .pre .1 .1 .1 .0, (omega arith, omega arith))))
 
 add-gap-powers : tie.Need-add-gap-powers
-add-gap-powers c = let few = count-few _ _ _ (c .before .before .before .gap-powers .ensures .0) in search needs
+add-gap-powers c = let few = gathered-few _ _ _ (c .before .before .before .gap-powers .ensures .0) in search needs
 
 gap-powers-requires-2 : tie.Need-gap-powers-requires-2
 gap-powers-requires-2 c κs =
     let one = c .before .before .before in
     let s = one .before .before .before .before in
-    let few = count-few _ _ _ (one .gap-powers .ensures .0) in
+    let few = gathered-few _ _ _ (one .gap-powers .ensures .0) in
     (s .pre .0, (s .pre .1 .0, (s .pre .1 .1 .1 .0, (omega arith, omega arith))))
 
 add-to : tie.Need-add-to
 add-to c =
     let two = c .before .before in
     let short = small (two .before .before .before .before .before .before .before .before) in
-    let few = count-few _ _ _ (two .before .before .before .before .gap-powers .ensures .0) in
+    let few = gathered-few _ _ _ (two .before .before .before .before .gap-powers .ensures .0) in
     search needs
 
 add-to-2 : tie.Need-add-to-2
 add-to-2 c =
     let two = c .before .before in
     let short = small (two .before .before .before .before .before .before .before .before) in
-    let few = count-few _ _ _ (two .before .before .before .before .gap-powers .ensures .0) in
-    let more = count-few _ _ _ (two .gap-powers2 .ensures .0) in
+    let few = gathered-few _ _ _ (two .before .before .before .before .gap-powers .ensures .0) in
+    let more = gathered-few _ _ _ (two .gap-powers2 .ensures .0) in
     search needs
 
 part-percentile-end : tie.Need-part-percentile-end
 part-percentile-end c =
     let two = c .before .before .before in
-    let few = count-few _ _ _ (two .before .before .before .before .gap-powers .ensures .0) in
-    let more = count-few _ _ _ (two .gap-powers2 .ensures .0) in
+    let few = gathered-few _ _ _ (two .before .before .before .before .gap-powers .ensures .0) in
+    let more = gathered-few _ _ _ (two .gap-powers2 .ensures .0) in
     search needs
 
 percentile-requires : tie.Need-percentile-requires
@@ -57,8 +57,8 @@ percentile-requires c κs =
     let two = c .before .before .before .before in
     let one = two .before .before .before .before in
     let s = one .before .before .before .before in
-    let few = count-few _ _ _ (one .gap-powers .ensures .0) in
-    let more = count-few _ _ _ (two .gap-powers2 .ensures .0) in
+    let few = gathered-few _ _ _ (one .gap-powers .ensures .0) in
+    let more = gathered-few _ _ _ (two .gap-powers2 .ensures .0) in
     let short = small s in
     simp (length-take, length-drop) (omega arith)
 
