@@ -1,13 +1,13 @@
 -- How large a complex result can be: `CBounded k a z` says that both parts of z are finite and of size at most a * 2
--- ^ k. Each operation has its law, and so have sums of a row. The norm is
--- finite and not negative (`norm-amount`). Assumes nothing.
+-- ^ k. Each operation has its law, and so have sums of a row. The norm is finite and not negative (`norm-amount`).
+-- Assumes nothing.
 use mathlib.Core.Path.{_≡_, subst, sym}
 use Prim.Native.Nat.{ℕ, zero, suc, _+_, _*_, _^_, _≤_, _<_, zero-le}
 use native.Mathlib.Nat.{le-refl, le-trans, le-of-eq, one-mul, mul-le-mul-right, suc-mul}
 use native.Mathlib.Omega.{arith}
 use lib.Ieee.{Float}
 use Rattle.float.specs.Ops.{of}
-use Rattle.float.proofs.Bounds.{Bounded, bounded-zero, bounded-more, bounded-shift, bounded-neg, bounded-add, bounded-sub, bounded-mul, Beyond, bounded-div, bounded-mean}
+use Rattle.float.proofs.Bounds.{Bounded, bounded-zero, bounded-more, bounded-neg, bounded-add, bounded-sub, bounded-mul, Beyond, bounded-div, bounded-mean}
 use Rattle.float.proofs.Amounts.{Amount, amount-root, amount-squares}
 use Rattle.complex.specs.declared.value.Complex.{Complex}
 use Rattle.complex.specs.Value.{cZero, cAdd, cSub, cMul, cConj, cDiv, cNormSqr, cNorm}
@@ -19,9 +19,6 @@ pub record CBounded (k a : ℕ) (z : Complex) : Type 0 where
 
 pub cbounded-more : {k a j b : ℕ} {z : Complex} → CBounded k a z → a ≤ b → k ≤ j → CBounded j b z
 cbounded-more p h g = record { re-part = bounded-more (p .re-part) h g; im-part = bounded-more (p .im-part) h g }
-
-pub cbounded-shift : (j : ℕ) {k a : ℕ} {z : Complex} → CBounded k (a * 2 ^ j) z → CBounded (k + j) a z
-cbounded-shift j p = record { re-part = bounded-shift j (p .re-part); im-part = bounded-shift j (p .im-part) }
 
 pub cbounded-zero : {k a : ℕ} → CBounded k a cZero
 cbounded-zero = record { re-part = bounded-more bounded-zero zero-le zero-le; im-part = bounded-more bounded-zero zero-le zero-le }

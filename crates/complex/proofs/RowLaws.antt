@@ -3,16 +3,16 @@ use Prim.Native.Nat.{ℕ, zero, suc, _+_, _-_, _*_, _<_, _≤_}
 use native.Mathlib.Numerals.{add-one}
 use native.Mathlib.Omega.{arith}
 use native.Mathlib.Nat.{not-suc-le-zero, eq-or-lt-of-le, le-of-suc-le-suc}
-use mathlib.Core.Path.{_≡_, refl, sym, ap, _∙_}
+use mathlib.Core.Path.{_≡_, refl, _∙_}
 use mathlib.Core.List.{List}
 use mathlib.Core.Logic.{_≢_, ⊎-elim}
-use lib.ListN.{length, getD, set, length-set}
+use lib.ListN.{length, set, length-set}
 use lib.Seq.{getD-set-same, getD-set-other}
 use lib.Ieee.{Float, nan}
 use Rattle.lists.specs.Fill.{fill}
 use Rattle.lists.proofs.Fill.{getD-fill-below}
 use Rattle.complex.specs.declared.value.Complex.{Complex}
-use Rattle.complex.specs.Value.{cNew, cZero, cAdd}
+use Rattle.complex.specs.Value.{cZero, cAdd}
 use Rattle.complex.specs.Rows.{zAt, zSet, cSum, zFill}
 
 -- A loop that sums the numbers from a, at k: before it, a turn of it, and after it. The premises are what the code's
@@ -48,12 +48,7 @@ pub zFill-none : (l : List Float) (at : ℕ) (f : ℕ → Complex) → l ≡ zFi
 unfolding zFill
 zFill-none l at f = refl
 
--- A loop that stores f n at number at + n, and one that stores it at number n.
-pub zFill-turn : (l : List Float) (at : ℕ) (f : ℕ → Complex) (n : ℕ) (cur new : List Float) (z : Complex)
-    → cur ≡ zFill l at f n → z ≡ f n → new ≡ zSet cur (at + n) z → new ≡ zFill l at f (n + 1)
-unfolding zFill
-zFill-turn l at f n cur new z p e h = rw (add-one, h, p, e)
-
+-- A loop that stores f n at number n.
 pub zFill-turn0 : (l : List Float) (f : ℕ → Complex) (n : ℕ) (cur new : List Float) (z : Complex)
     → cur ≡ zFill l 0 f n → z ≡ f n → new ≡ zSet cur n z → new ≡ zFill l 0 f (n + 1)
 unfolding zFill

@@ -4,4 +4,5 @@ pub mod value;
 
 pub use rows::get;
 pub use rows::put;
+pub use rows::sum;
 pub use value::Complex;

@@ -2,7 +2,7 @@
 // of num_complex.
 ghost use mathlib.Core.Path.{_≡_};
 ghost use Rattle.trig.specs.Sine.{sineTable};
-ghost use Rattle.complex.specs.Value.{cNew, cZero, cAdd, cSub, cMul, cConj, cNormSqr, cNorm, cArg, cDiv, cPolar};
+ghost use Rattle.complex.specs.Value.{cNew, cAdd, cSub, cMul, cConj, cNormSqr, cNorm, cArg, cDiv, cPolar};
 
 pub struct Complex {
     pub re: f64,
@@ -75,7 +75,7 @@ impl Complex {
     pub fn norm(self) -> f64
         ensures { λ r. ⌜ r ≡ cNorm self ⌝ }
     {
-        float::sqrt(self.re * self.re + self.im * self.im)
+        float::sqrt(self.norm_sqr())
     }
 
     pub fn arg(self) -> f64

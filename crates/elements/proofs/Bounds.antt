@@ -5,7 +5,7 @@
 use mathlib.Core.Path.{_≡_, refl, sym, ap, _∙_, subst}
 use mathlib.Core.Logic.{_⊎_, inl, inr, ⊎-elim, _↔_}
 use mathlib.Core.Bool.{Bool, true, false, cond}
-use mathlib.Core.List.{List, [], _∷_, map, List·Memᴰ, List·Memᴰ·head, List·Memᴰ·tail, List·Memᴰ·not-nil, List·Memᴰ·cases-cons}
+use mathlib.Core.List.{List, List·Memᴰ, List·Memᴰ·not-nil, Memᴰ·of-map}
 use Prim.Native.Nat.{ℕ, _+_, _-_, _*_, _^_, _≤_, _<_}
 use native.Mathlib.Nat.{mul-le-mul, eq-zero-or-pos}
 use native.Mathlib.Omega.{arith}
@@ -18,7 +18,7 @@ use Rattle.float.proofs.Compared.{yes}
 use Rattle.float.proofs.Bounds.{Bounded, bounded-more, bounded-add, bounded-sub, bounded-mul, bounded-div, bounded-whole, bounded-one, beyond-two}
 use Rattle.float.proofs.Amounts.{Amount, amount-half, amount-number, Crosses, share-bounded}
 use Rattle.row.specs.Samples.{Iq}
-use Rattle.row.specs.Window.{Rate, stepOf, blocks}
+use Rattle.row.specs.Window.{Rate, stepOf, blocks, centreOf}
 use Rattle.row.specs.Envelope.{rowOf, rowLength}
 use Rattle.lists.specs.Firsts.{firsts}
 use Rattle.row.proofs.Means.{blocks-short}
@@ -33,7 +33,7 @@ use Rattle.rank.proofs.Among.{percentile-keeps}
 use Rattle.constants.specs.Constants.{EDGE_PERCENTILE}
 use Rattle.elements.specs.Find.{Threshold, At, Absent, halfOf, thresholdOf, keyDownsAt, elementsAt, keyDownsOf, elementsFound}
 use Rattle.elements.specs.declared.element.KeyedElement.{KeyedElement}
-use Rattle.elements.specs.Keying.{upward, downward, KeyDown, IsKeyDown, keyDowns, centre, crossedAt, elementOf, listedOf, elementsOf, elementsTo}
+use Rattle.elements.specs.Keying.{upward, downward, KeyDown, IsKeyDown, keyDowns, crossedAt, elementOf, listedOf, elementsOf, elementsTo}
 use Rattle.elements.proofs.KeyDowns.{members, listed-is, key-down-is}
 
 -- ---- one crossing
@@ -50,18 +50,18 @@ crosses row thr i h =
     (λ d. inr (yes (and-left (le thr (row (i - 1))) (lt (row i) thr) d), yes (and-right (le thr (row (i - 1))) (lt (row i) thr) d)))
     h
 
-centre-bounded : (step i : ℕ) → i * step + 8 * step + 1 ≤ 2 ^ 53 → Bounded 0 (i * step + (8 * step + 1)) (centre step i)
-centre-bounded step i h =
-    bounded-add (bounded-whole (i * step) (omega arith))
-    (bounded-div (bounded-sub (bounded-whole (8 * step) (omega arith)) bounded-one (omega arith) (lit≤ tt)) beyond-two (omega arith) (lit≤ tt)) (omega arith) (lit≤ tt)
+centre-bounded : (a len : ℕ) → a + len + 1 ≤ 2 ^ 53 → Bounded 0 (a + (len + 1)) (centreOf a len)
+centre-bounded a len h =
+    bounded-add (bounded-whole a (omega arith))
+    (bounded-div (bounded-sub (bounded-whole len (omega arith)) bounded-one (omega arith) (lit≤ tt)) beyond-two (omega arith) (lit≤ tt)) (omega arith) (lit≤ tt)
 
-pub crossed-bounded : (row : ℕ → Float) (thr : Float) (step i : ℕ) → step ≤ 64 → i ≤ 1048576 → Amount (row (i - 1)) → Amount (row i) → Amount thr → Crossed row thr i → Bounded 0 (2 ^ 27) (crossedAt row thr step i)
+pub crossed-bounded : (row : ℕ → Float) (thr : Float) (step i : ℕ) → step ≤ 64 → i ≤ 2 ^ 20 → Amount (row (i - 1)) → Amount (row i) → Amount thr → Crossed row thr i → Bounded 0 (2 ^ 27) (crossedAt row thr step i)
 unfolding crossedAt
 crossed-bounded row thr step i s h p q t c =
-    let far : (i - 1) * step ≤ 1048576 * 64 = mul-le-mul {n₁ = i - 1} {n₂ = 1048576} (omega arith) s in
+    let far : (i - 1) * step ≤ 2 ^ 20 * 64 = mul-le-mul {n₁ = i - 1} {n₂ = 2 ^ 20} (omega arith) s in
     let share : Bounded 0 1 ((thr ⊖ row (i - 1)) ⊘ (row i ⊖ row (i - 1))) = share-bounded (row (i - 1)) (row i) thr p q t (crosses row thr i c) in
     bounded-more
-    (bounded-add (centre-bounded step (i - 1) (omega arith)) (bounded-mul share (bounded-whole step (omega arith)) (omega arith) (lit≤ tt)) (omega arith) (lit≤ tt))
+    (bounded-add (centre-bounded ((i - 1) * step) (8 * step) (omega arith)) (bounded-mul share (bounded-whole step (omega arith)) (omega arith) (lit≤ tt)) (omega arith) (lit≤ tt))
     (omega arith) (lit≤ tt)
 
 -- ---- one element
@@ -73,7 +73,7 @@ pub record Plain (e : KeyedElement) : Type 0 where
   pub up-bounded : Bounded 0 (2 ^ 20) (e .up)
   pub down-bounded : Bounded 0 (2 ^ 20) (e .down)
 
-pub element-bounded : (row : ℕ → Float) (thr : Float) (step j : ℕ) (k : KeyDown) → step ≤ 64 → j ≤ 1048576 → ((i : ℕ) → i ≤ j → Amount (row i)) → Amount thr → IsKeyDown row thr j k → Plain (elementOf row thr step k)
+pub element-bounded : (row : ℕ → Float) (thr : Float) (step j : ℕ) (k : KeyDown) → step ≤ 64 → j ≤ 2 ^ 20 → ((i : ℕ) → i ≤ j → Amount (row i)) → Amount thr → IsKeyDown row thr j k → Plain (elementOf row thr step k)
 unfolding elementOf
 element-bounded row thr step j k s h each t a =
     let u : k .up ≤ j = omega (arith, a .later, a .within) in
@@ -87,18 +87,14 @@ element-bounded row thr step j k s h each t a =
 
 -- ---- all of them
 
-mapped : {A B : Type 0} (f : A → B) (l : List A) (y : B) → List·Memᴰ y (map f l) → (x : A) × List·Memᴰ x l × (y ≡ f x)
-mapped f [] y m = absurd (List·Memᴰ·not-nil m)
-mapped f (x ∷ l) y m = ⊎-elim (λ e. (x, List·Memᴰ·head refl, e)) (λ r. let t = mapped f l y r in (t .0, List·Memᴰ·tail (t .1), t .2)) (List·Memᴰ·cases-cons m)
-
-pub elements-bounded : (row : ℕ → Float) (thr : Float) (step : ℕ) (fs : Float) (j : ℕ) → step ≤ 64 → j ≤ 1048576 → ((i : ℕ) → i ≤ j → Amount (row i)) → Amount thr
+pub elements-bounded : (row : ℕ → Float) (thr : Float) (step : ℕ) (fs : Float) (j : ℕ) → step ≤ 64 → j ≤ 2 ^ 20 → ((i : ℕ) → i ≤ j → Amount (row i)) → Amount thr
     → (e : KeyedElement) → List·Memᴰ e (elementsTo row thr step fs j) → Plain e
 unfolding elementsTo elementsOf
 elements-bounded row thr step fs j s h each t e m =
     let ks = keyDowns row thr j in
-    let from = mapped (elementOf row thr step) (listedOf row thr step fs ks) e m in
+    let from = Memᴰ·of-map (elementOf row thr step) (listedOf row thr step fs ks) m in
     let listed = listed-is row thr step fs ks (from .0) .0 (from .1) in
-    subst Plain (sym (from .2)) (element-bounded row thr step j (from .0) s h each t (members row thr j (from .0) (listed .0) .0))
+    subst Plain (from .2) (element-bounded row thr step j (from .0) s h each t (members row thr j (from .0) (listed .0) .0))
 
 -- ---- those of a recording, at any carrier
 
@@ -158,7 +154,7 @@ module _ (iq : List Float) (fs carrier : Float) (s : Singles iq) (q : Iq iq) whe
     where
       go : (p : Threshold) → thresholdOf iq fs carrier ≡ p → List·Memᴰ e (elementsAt (rowOf iq fs carrier) (rowLength iq fs - 1) (stepOf fs) fs p) → Plain e
       go (At thr) t m =
-          let few : blocks iq (stepOf fs) ≤ 1048576 = blocks-short iq (stepOf fs) (q .short) in
+          let few : blocks iq (stepOf fs) ≤ 2 ^ 20 = blocks-short iq (stepOf fs) (q .short) in
           elements-bounded (rowOf iq fs carrier) thr (stepOf fs) fs (rowLength iq fs - 1) (step-high fs r) (omega arith)
           (last-amount thr t) (threshold-amount thr t) e m
       go Absent t m = absurd (List·Memᴰ·not-nil m)

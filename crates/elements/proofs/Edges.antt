@@ -1,27 +1,24 @@
 -- The rows of 01's edge table that speak of elements: fs 3,000, carrier 0, samples 0 or (1, 0). Assumes nothing.
-use Prim.Native.Nat.{ℕ, zero, suc, _+_, _-_, _*_, _/_, _≤_, _<_, min}
-use native.Mathlib.Nat.{eq-or-lt-of-le, le-of-suc-le-suc, not-suc-le-zero, div-one}
+use Prim.Native.Nat.{ℕ, zero, suc, _+_, _-_, _/_, _^_, _≤_, _<_}
+use native.Mathlib.Nat.{div-one}
 use native.Mathlib.Omega.{arith}
 use mathlib.Core.Path.{_≡_, refl, sym, ap, _∙_, subst}
-use mathlib.Core.Logic.{_⊎_, ⊎-elim}
-use mathlib.Core.Bool.{Bool, true, false, not, cond}
-use mathlib.Core.List.{List, [], _∷_, _++_}
-use lib.Dec.{T, leb, ltb}
-use lib.ListN.{length, getD, length-append, List·getD-append, List·getD-eq-default}
-use lib.Seq.{getD-append-add}
+use mathlib.Core.Logic.{⊎-elim}
+use mathlib.Core.Bool.{true, false, not}
+use mathlib.Core.List.{List, [], _∷_}
+use lib.Dec.{T, ltb}
+use lib.ListN.{length, getD, List·getD-eq-default}
 use lib.Ieee.{Float, nan, binary64, add, sub, mul, div, lt, le, eq, ofInt, ofBits, round, toUnsigned, isNan, fits}
 use lib.Ieee.Fits.{round-fits, nan-fits}
-use borrow.Author.Tests.{leb-true, leb-false, ltb-true, ltb-false}
+use borrow.Author.Tests.{ltb-true, ltb-false}
 use Rattle.float.specs.Ops.{_⊘_, of, fraction, half}
 use Rattle.float.specs.Compare.{maxOf}
 use Rattle.float.specs.Whole.{roundOf, wholeBy}
-use Rattle.complex.specs.Value.{cNew}
-use Rattle.complex.specs.Rows.{zAt}
 use Rattle.constants.specs.Constants.{EDGE_WINDOW_S, RISE_S, EDGE_PERCENTILE}
-use Rattle.row.specs.Window.{stepOf}
+use Rattle.row.specs.Window.{stepOf, windowOf}
 use Rattle.row.specs.Envelope.{rowOf, rowLength}
 use Rattle.lists.specs.Firsts.{firsts}
-use Rattle.lists.proofs.Firsts.{length-firsts, getD-firsts}
+use Rattle.lists.proofs.Firsts.{length-firsts, getD-firsts, firsts-cong}
 use Rattle.rank.specs.declared.Percentile.the-variants.{Value}
 use Rattle.rank.specs.Order.{minusZero, precedes, before, upTo}
 use Rattle.lists.specs.Count.{countTo}
@@ -33,71 +30,20 @@ use Rattle.elements.specs.declared.keying.Found.{Found}
 use Rattle.elements.specs.Keying.{upward, downward, pending, keyDowns, crossedAt, elementOf, isLong, long, airtimeOf, listedOf, shortOf, counts, elementsOf, foundTo, elementsTo}
 use Rattle.lists.specs.Those.{those}
 use Rattle.elements.specs.Find.{Threshold, At, halfOf, thresholdOf, foundAt, elementsAt, foundOf, elementsFound}
-use Rattle.elements.specs.Ones.{isOne, onesOf}
+use Rattle.elements.specs.Ones.{onesOf}
 use Rattle.elements.proofs.KeyDowns.{either}
 use Rattle.elements.proofs.Same.{found-same, elements-same}
-use Rattle.elements.proofs.Unturned.{real, at-nine, row-real}
+use Rattle.elements.proofs.Ones.{at-nine, onesBelow, length-ones, row-ones}
 
-both-parts : (x y x' y' : Float) → x ≡ x' → y ≡ y' → cNew x y ≡ cNew x' y'
-both-parts x y x' y' p q = rw (p, q)
-
-pair-last : (l : List Float) (x y : Float) (n : ℕ) → length l ≡ 2 * n → zAt (l ++ (x ∷ y ∷ [])) n ≡ cNew x y
-pair-last l x y n size =
-    let re : 2 * n ≡ length l + 0 = omega arith in
-    let im : 2 * n + 1 ≡ length l + 1 = omega arith in
-    both-parts (getD (l ++ (x ∷ y ∷ [])) (2 * n) nan) (getD (l ++ (x ∷ y ∷ [])) (2 * n + 1) nan) x y
-    (ap (λ (i : ℕ). getD (l ++ (x ∷ y ∷ [])) i nan) re ∙ getD-append-add l (x ∷ y ∷ []) 0 nan)
-    (ap (λ (i : ℕ). getD (l ++ (x ∷ y ∷ [])) i nan) im ∙ getD-append-add l (x ∷ y ∷ []) 1 nan)
-
-pair-before : (l r : List Float) (k : ℕ) → 2 * k + 1 < length l → zAt (l ++ r) k ≡ zAt l k
-pair-before l r k h =
-    both-parts (getD (l ++ r) (2 * k) nan) (getD (l ++ r) (2 * k + 1) nan) (getD l (2 * k) nan) (getD l (2 * k + 1) nan)
-    (List·getD-append l r nan (2 * k) (omega arith)) (List·getD-append l r nan (2 * k + 1) h)
-
--- ---- the recording: its samples, and how many ones there are below k
-module _ (a e : ℕ) where
-  abbrev bitAt : ℕ → ℕ
-  bitAt k = cond (isOne a e k) 1 0
-
-  abbrev onesBelow : ℕ → ℕ
-  onesBelow k = min k (suc e) - a
-
-  bit-small : (k : ℕ) → bitAt k ≤ 1
-  bit-small k = small (isOne a e k)
-    where
-      small : (t : Bool) → cond t 1 0 ≤ 1
-      small true = omega arith
-      small false = omega arith
-
-  ones-next : (k : ℕ) → onesBelow (suc k) ≡ onesBelow k + bitAt k
-  unfolding isOne
-  ones-next k =
-      ⊎-elim
-      (λ p. let h = leb-true a k p in
-      ⊎-elim (λ q. let g = leb-true k e q in rw (p, q) (omega arith)) (λ q. let g = leb-false k e q in rw (p, q) (omega arith)) (either (leb k e)))
-      (λ p. let h = leb-false a k p in rw p (omega arith))
-      (either (leb a k))
-
-  length-ones : (n : ℕ) → length (onesOf a e n) ≡ 2 * n
-  unfolding onesOf
-  length-ones zero = refl
-  length-ones (suc n) = length-append (onesOf a e n) (of (bitAt n) ∷ of 0 ∷ []) ∙ (let so-far = length-ones n in omega arith)
-
-  sample-ones : (n k : ℕ) → k < n → zAt (onesOf a e n) k ≡ real (bitAt k)
-  unfolding onesOf
-  sample-ones zero k h = absurd (not-suc-le-zero h)
-  sample-ones (suc n) k h =
-      let size = length-ones n in
-      ⊎-elim (λ q. ap (zAt (onesOf a e (suc n))) q ∙ pair-last (onesOf a e n) (of (bitAt n)) (of 0) n size ∙ ap (λ (i : ℕ). real (bitAt i)) (sym q))
-      (λ l. pair-before (onesOf a e n) (of (bitAt n) ∷ of 0 ∷ []) k (omega arith) ∙ sample-ones n k l)
-      (eq-or-lt-of-le (le-of-suc-le-suc h))
-
--- ---- at fs 3,000: step 1
+-- ---- at fs 3,000: step 1, window 8
 pub step-3000 : stepOf (of 3000) ≡ 1
 unfolding stepOf EDGE_WINDOW_S fraction maxOf roundOf wholeBy round mul div lt isNan ofInt ofBits toUnsigned
 step-3000 = refl
 
-cycles-3000 : of 0 ⊘ of 3000 ≡ of 0
+pub window-3000 : windowOf (of 3000) ≡ 8
+window-3000 = rw step-3000
+
+pub cycles-3000 : of 0 ⊘ of 3000 ≡ of 0
 unfolding div ofInt
 cycles-3000 = refl
 
@@ -112,19 +58,13 @@ module _ (a e : ℕ) where
   few-ones : (i : ℕ) → inEight i ≤ 8
   few-ones i = omega arith
 
-module _ (a e n : ℕ) (few : n ≤ 1048576) where
+module _ (a e n : ℕ) (few : n ≤ 2 ^ 20) where
   blocks-ones : length (onesOf a e n) / 2 / stepOf (of 3000) ≡ n
   blocks-ones = rw (step-3000, length-ones a e n, div-one) (omega arith)
 
-  row-ones : (i : ℕ) → 8 + i ≤ n → rowOf (onesOf a e n) (of 3000) (of 0) i ≡ eighths a e i
+  row-3000 : (i : ℕ) → 8 + i ≤ n → rowOf (onesOf a e n) (of 3000) (of 0) i ≡ eighths a e i
   unfolding rowOf
-  row-ones i h =
-      rw (step-3000, cycles-3000) (row-real (onesOf a e n) n (bitAt a e) (onesBelow a e) few (bit-small a e) (omega arith) (ones-next a e) (sample-ones a e n) i h)
-
-list-same : (f g : ℕ → Float) (n : ℕ) → ((i : ℕ) → i < n → f i ≡ g i) → firsts f n ≡ firsts g n
-unfolding firsts
-list-same f g zero h = refl
-list-same f g (suc n) h = rw (list-same f g n (λ i b. h i (omega arith)), h n (omega arith))
+  row-3000 i h = rw (step-3000, cycles-3000) (row-ones a e n few i h)
 
 -- ---- its threshold: half of 1, where so many eights are full that the 98th percentile is one of them
 abbrev top : Float
@@ -191,7 +131,7 @@ module _ (row : ℕ → Float) (fs : Float) {last last' step step' : ℕ} {p p' 
   elements-by = rw (l, s, t)
 
 -- ---- what is found in it is what the row of eighths has
-module _ (a e n : ℕ) (few : n ≤ 1048576) (some : 8 ≤ n) (enough : countTo (λ i. ltb (inEight a e i) 8) (n - 7) ≤ rankOf (n - 7) EDGE_PERCENTILE) where
+module _ (a e n : ℕ) (few : n ≤ 2 ^ 20) (some : 8 ≤ n) (enough : countTo (λ i. ltb (inEight a e i) 8) (n - 7) ≤ rankOf (n - 7) EDGE_PERCENTILE) where
   abbrev iq : List Float
   iq = onesOf a e n
 
@@ -200,14 +140,14 @@ module _ (a e n : ℕ) (few : n ≤ 1048576) (some : 8 ≤ n) (enough : countTo 
   threshold-ones =
       ap (λ (l : List Float). halfOf (percentileOf l EDGE_PERCENTILE))
       (ap (λ (b : ℕ). firsts (rowOf iq (of 3000) (of 0)) (b - 7)) (blocks-ones a e n few)
-      ∙ list-same (rowOf iq (of 3000) (of 0)) (eighths a e) (n - 7) (λ i h. row-ones a e n few i (omega arith)))
+      ∙ firsts-cong (rowOf iq (of 3000) (of 0)) (eighths a e) (n - 7) (λ i h. row-3000 a e n few i (omega arith)))
       ∙ ap halfOf (percentile-top (inEight a e) (few-ones a e) (n - 7) (omega arith) enough) ∙ half-top
 
   last-ones : rowLength iq (of 3000) - 1 ≡ n - 7 - 1
   last-ones = ap (λ (b : ℕ). b - 7 - 1) (blocks-ones a e n few)
 
   row-so : (i : ℕ) → i ≤ n - 7 - 1 → rowOf iq (of 3000) (of 0) i ≡ eighths a e i
-  row-so i h = row-ones a e n few i (omega arith)
+  row-so i h = row-3000 a e n few i (omega arith)
 
   pub found-ones : foundOf iq (of 3000) (of 0) ≡ foundTo (eighths a e) half 1 (of 3000) (n - 7 - 1)
   unfolding foundOf
@@ -231,20 +171,33 @@ abbrev pub RowFinds : (a e n : ℕ) → Found → List KeyedElement → Type 0
 RowFinds a e n found elements =
     (foundTo (eighths a e) half 1 (of 3000) (n - 7 - 1) ≡ found) × (elementsTo (eighths a e) half 1 (of 3000) (n - 7 - 1) ≡ elements)
 
-pub finds : (a e n : ℕ) (found : Found) (elements : List KeyedElement) → n ≤ 1048576 → 8 ≤ n
+pub finds : (a e n : ℕ) (found : Found) (elements : List KeyedElement) → n ≤ 2 ^ 20 → 8 ≤ n
     → countTo (λ i. ltb (inEight a e i) 8) (n - 7) ≤ rankOf (n - 7) EDGE_PERCENTILE → RowFinds a e n found elements → Finds a e n found elements
 finds a e n found elements few some enough row = (found-ones a e n few some enough ∙ row .0, elements-ones a e n few some enough ∙ row .1)
 
-abbrev counted : ℕ → ℕ → ℕ → ℕ → Found
-counted keys listed short air = record { «key_downs» = keys; listed = listed; short = short; airtime = air }
+abbrev pub counted : ℕ → ℕ → ℕ → ℕ → Found
+counted key-downs listed short air = record { «key_downs» = key-downs; listed = listed; short = short; airtime = air }
 
--- Ones at 100..199 of 300: times 99.5 and 199.5. Ones at 40..54 of 107: listed. At 40..53: short.
-pub edges : Finds 100 199 300 (counted 1 1 0 101) (record { start = fraction 995 10; end = fraction 1995 10; up = of 96; down = of 197 } ∷ [])
-    × Finds 40 54 107 (counted 1 1 0 16) (record { start = fraction 395 10; end = fraction 545 10; up = of 36; down = of 52 } ∷ [])
-    × Finds 40 53 107 (counted 1 0 1 0) []
+-- the element from 99.5 that ones from 100 on are
+abbrev pub from-100 : Float → ℕ → KeyedElement
+from-100 end down = record { start = fraction 995 10; end = end; up = of 96; down = of down }
+
+-- Ones at 100..199 of 300: times 99.5 and 199.5. Of 300, 61 and 60 ones from 100: found too. Ones at 40..54 of 107:
+-- listed. At 40..53: short.
+pub record Table : Type 0 where
+  pub ones-100-199 : Finds 100 199 300 (counted 1 1 0 101) (from-100 (fraction 1995 10) 197 ∷ [])
+  pub ones-100-160 : Finds 100 160 300 (counted 1 1 0 62) (from-100 (fraction 1605 10) 158 ∷ [])
+  pub ones-100-159 : Finds 100 159 300 (counted 1 1 0 61) (from-100 (fraction 1595 10) 157 ∷ [])
+  pub ones-40-54 : Finds 40 54 107 (counted 1 1 0 16) (record { start = fraction 395 10; end = fraction 545 10; up = of 36; down = of 52 } ∷ [])
+  pub ones-40-53 : Finds 40 53 107 (counted 1 0 1 0) []
+
+pub edges : Table
 unfolding foundTo counts elementsTo elementsOf listedOf shortOf those airtimeOf keyDowns pending upward downward long isLong elementOf crossedAt RISE_S countTo rankOf EDGE_PERCENTILE roundOf wholeBy fraction round lt le eq add sub mul div ofInt ofBits toUnsigned
-edges = (
-  finds 100 199 300 _ _ (omega arith) (omega arith) (omega arith) (refl, refl),
-  finds 40 54 107 _ _ (omega arith) (omega arith) (omega arith) (refl, refl),
-  finds 40 53 107 _ _ (omega arith) (omega arith) (omega arith) (refl, refl),
-)
+edges =
+    record {
+      ones-100-199 = finds 100 199 300 _ _ (omega arith) (omega arith) (omega arith) (refl, refl);
+      ones-100-160 = finds 100 160 300 _ _ (omega arith) (omega arith) (omega arith) (refl, refl);
+      ones-100-159 = finds 100 159 300 _ _ (omega arith) (omega arith) (omega arith) (refl, refl);
+      ones-40-54 = finds 40 54 107 _ _ (omega arith) (omega arith) (omega arith) (refl, refl);
+      ones-40-53 = finds 40 53 107 _ _ (omega arith) (omega arith) (omega arith) (refl, refl);
+    }

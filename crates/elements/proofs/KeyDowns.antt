@@ -1,24 +1,24 @@
 -- Which pairs `keyDowns` has: each upward crossing with the next downward one, each once, in order (01, part 3). For
 -- every row and threshold; where a row must have no NaN, the theorem says so. Assumes nothing.
 use Prim.Native.Nat.{ℕ, zero, suc, _+_, _-_, _*_, _/_, _≤_, _<_}
-use native.Mathlib.Nat.{eq-or-lt-of-le, le-of-suc-le-suc, not-suc-le-zero}
+use native.Mathlib.Nat.{eq-or-lt-of-le, le-of-suc-le-suc}
 use native.Mathlib.Omega.{arith}
 use mathlib.Core.Path.{_≡_, refl, sym, ap, _∙_, subst}
 use mathlib.Core.Logic.{_⊎_, inl, inr, ⊎-elim, _↔_}
-use mathlib.Core.Bool.{Bool, true, false, not, _&&_, cond, false≢true}
-use mathlib.Core.List.{List, [], _∷_, _++_, append-nil, List·Memᴰ, List·Memᴰ·head, List·Memᴰ·tail, List·Memᴰ·not-nil, List·Memᴰ·cases-cons, List·Memᴰ·append-cases, List·Memᴰ·eq-of-singleton, Memᴰ·append-left, Memᴰ·append-right}
-use lib.ListN.{length, getD, length-append, List·getD-append}
-use lib.Seq.{getD-append-seam}
+use mathlib.Core.Bool.{Bool, true, false, _&&_, cond, false≢true}
+use mathlib.Core.List.{List, [], _∷_, _++_, append-nil, List·Memᴰ, List·Memᴰ·head, List·Memᴰ·tail, List·Memᴰ·not-nil, List·Memᴰ·append-cases, List·Memᴰ·eq-of-singleton, Memᴰ·append-left, Memᴰ·append-right}
+use lib.ListN.{length}
 use lib.Dec.{ltb}
 use borrow.Author.Tests.{ltb-true, ltb-false}
 use lib.Ieee.{Float, lt, le, isNan}
 use Rattle.lists.proofs.Every.{and-left, and-right}
+use Rattle.lists.proofs.Members.{those-are, those-others}
 use Rattle.elements.specs.declared.keying.Rising.{Rising}
 use Rattle.elements.specs.declared.keying.Rising.the-variants.{At, Nothing}
-use Rattle.elements.specs.Keying.{upward, downward, KeyDown, keyDown, IsKeyDown, pending, ended, keyDowns, long, listedOf, shortOf, counts, foundTo}
+use Rattle.elements.specs.Keying.{upward, downward, KeyDown, keyDown, IsKeyDown, InOrder, pending, ended, keyDowns, long, listedOf, shortOf, counts, foundTo}
 use Rattle.lists.specs.Those.{those}
 use Rattle.elements.proofs.Compared.{apart, total, reached-is}
-use Rattle.elements.proofs.Walk.{Held, one-way, pending-up, pending-down, pending-same, keys-down, keys-same, held}
+use Rattle.elements.proofs.Walk.{Spaced, one-way, pending-up, pending-down, pending-same, key-downs-more, key-downs-same, spaced}
 
 pub either : (t : Bool) → (t ≡ true) ⊎ (t ≡ false)
 either true = inl refl
@@ -26,15 +26,6 @@ either false = inr refl
 
 lt-or-ge : (a b : ℕ) → (a < b) ⊎ (b ≤ a)
 lt-or-ge a b = ⊎-elim (λ h. inl (ltb-true a b h)) (λ h. inr (ltb-false a b h)) (either (ltb a b))
-
--- number a of a list of key-downs
-abbrev pub nth : List KeyDown → ℕ → KeyDown
-nth ks a = getD ks a (keyDown 0 0)
-
-nth-is : (ks : List KeyDown) (a : ℕ) → a < length ks → List·Memᴰ (nth ks a) ks
-nth-is [] a h = absurd (not-suc-le-zero h)
-nth-is (k ∷ ks) zero h = List·Memᴰ·head refl
-nth-is (k ∷ ks) (suc a) h = List·Memᴰ·tail (nth-is ks a (le-of-suc-le-suc h))
 
 module _ (row : ℕ → Float) (thr : Float) where
   -- no crossing at i
@@ -111,8 +102,8 @@ module _ (row : ℕ → Float) (thr : Float) where
   members (suc j) k m =
       ⊎-elim
       (λ d. ⊎-elim (λ l. wider j k (members j k l)) (λ h. here-is j d (pending row thr j) k refl h)
-      (List·Memᴰ·append-cases (keyDowns row thr j) (subst (λ l. List·Memᴰ k l) (keys-down row thr j d) m)))
-      (λ d. wider j k (members j k (subst (λ l. List·Memᴰ k l) (keys-same row thr j d) m)))
+      (List·Memᴰ·append-cases (keyDowns row thr j) (subst (λ l. List·Memᴰ k l) (key-downs-more row thr j d) m)))
+      (λ d. wider j k (members j k (subst (λ l. List·Memᴰ k l) (key-downs-same row thr j d) m)))
       (either (downward row thr (suc j)))
 
   -- ---- and each key-down with no upward crossing within it is in the list
@@ -122,13 +113,13 @@ module _ (row : ℕ → Float) (thr : Float) where
       let d : downward row thr (suc j) ≡ true = subst (λ i. downward row thr i ≡ true) e (s .falls) in
       let up = pending-at j (k .up) (s .rises) (omega arith) (λ m a b. (alone m a (omega arith), s .next m a (omega arith))) in
       let same : k ≡ keyDown (k .up) (suc j) = ap (λ i. keyDown (k .up) i) e in
-      subst (λ l. List·Memᴰ k l) (sym (keys-down row thr j d))
+      subst (λ l. List·Memᴰ k l) (sym (key-downs-more row thr j d))
       (Memᴰ·append-right (keyDowns row thr j) (subst (λ r. List·Memᴰ k (ended r (suc j))) (sym up) (List·Memᴰ·head same)))
 
   kept-on : (j : ℕ) (k : KeyDown) → List·Memᴰ k (keyDowns row thr j) → List·Memᴰ k (keyDowns row thr (suc j))
   kept-on j k m =
-      ⊎-elim (λ d. subst (λ l. List·Memᴰ k l) (sym (keys-down row thr j d)) (Memᴰ·append-left (ended (pending row thr j) (suc j)) m))
-      (λ d. subst (λ l. List·Memᴰ k l) (sym (keys-same row thr j d)) m)
+      ⊎-elim (λ d. subst (λ l. List·Memᴰ k l) (sym (key-downs-more row thr j d)) (Memᴰ·append-left (ended (pending row thr j) (suc j)) m))
+      (λ d. subst (λ l. List·Memᴰ k l) (sym (key-downs-same row thr j d)) m)
       (either (downward row thr (suc j)))
 
   pub listed-all : (j : ℕ) (k : KeyDown) → IsKeyDown row thr j k → Alone k → List·Memᴰ k (keyDowns row thr j)
@@ -177,8 +168,7 @@ module _ (row : ℕ → Float) (thr : Float) where
     pub key-down-is : (k : KeyDown) → List·Memᴰ k (keyDowns row thr last) ↔ IsKeyDown row thr last k
     key-down-is k = (λ m. members last k m .0, λ s. listed-all last k s (alone k s))
 
-  -- ---- the order of the list: each key-down ends before the next one begins, so ups rise strictly and no pair is
-  -- there twice
+  -- ---- the order of the list
   -- a key-down of the list ends before the pending upward crossing
   before-pending : (j u : ℕ) (k : KeyDown) → pending row thr j ≡ At u → List·Memᴰ k (keyDowns row thr j) → k .down < u
   before-pending j u k e m =
@@ -191,90 +181,51 @@ module _ (row : ℕ → Float) (thr : Float) where
       (eq-or-lt-of-le l))
       (lt-or-ge (k .down) u)
 
-  abbrev Apart : List KeyDown → Type 0
-  Apart ks = (a b : ℕ) → a < b → b < length ks → nth ks a .down < nth ks b .up
+  in-order-more : (ks : List KeyDown) (k : KeyDown) → InOrder ks → ((d : KeyDown) → List·Memᴰ d ks → d .down < k .up) → InOrder (ks ++ (k ∷ []))
+  in-order-more [] k h all = (λ d m. absurd (List·Memᴰ·not-nil m), tt)
+  in-order-more (x ∷ ks) k h all = (
+    λ d m.
+        ⊎-elim (λ r. h .0 d r) (λ r. subst (λ (z : KeyDown). x .down < z .up) (sym (List·Memᴰ·eq-of-singleton r)) (all x (List·Memᴰ·head refl))) (List·Memᴰ·append-cases ks m),
+    in-order-more ks k (h .1) (λ d m. all d (List·Memᴰ·tail m)),
+  )
 
-  less-by : (x x' y y' : KeyDown) → x ≡ x' → y ≡ y' → x' .down < y' .up → x .down < y .up
-  less-by x x' y y' p q h = rw (p, q) h
+  in-order-ended : (j : ℕ) (r : Rising) → pending row thr j ≡ r → InOrder (keyDowns row thr j) → InOrder (keyDowns row thr j ++ ended r (suc j))
+  in-order-ended j (At u) e h = in-order-more (keyDowns row thr j) (keyDown u (suc j)) h (λ d m. before-pending j u d e m)
+  in-order-ended j Nothing e h = subst InOrder (sym (append-nil (keyDowns row thr j))) h
 
-  apart-more : (ks : List KeyDown) (k : KeyDown) → Apart ks → ((d : KeyDown) → List·Memᴰ d ks → d .down < k .up) → Apart (ks ++ (k ∷ []))
-  apart-more ks k so-far all a b h g =
-      let size : b < length ks + 1 = rw (length-append ks (k ∷ [])) at g in
-      let first = List·getD-append ks (k ∷ []) (keyDown 0 0) a (omega arith) in
-      ⊎-elim
-      (λ e. less-by (nth (ks ++ (k ∷ [])) a) (nth ks a) (nth (ks ++ (k ∷ [])) b) k first (ap (nth (ks ++ (k ∷ []))) e ∙ getD-append-seam ks k [] (keyDown 0 0))
-      (all (nth ks a) (nth-is ks a (omega arith))))
-      (λ l. less-by (nth (ks ++ (k ∷ [])) a) (nth ks a) (nth (ks ++ (k ∷ [])) b) (nth ks b) first (List·getD-append ks (k ∷ []) (keyDown 0 0) b l) (so-far a b h l))
-      (eq-or-lt-of-le (le-of-suc-le-suc (le-suc b (length ks) size)))
-    where
-      le-suc : (n m : ℕ) → n < m + 1 → suc n ≤ suc m
-      le-suc n m l = omega arith
-
-  apart-ended : (j : ℕ) (r : Rising) → pending row thr j ≡ r → Apart (keyDowns row thr j) → Apart (keyDowns row thr j ++ ended r (suc j))
-  apart-ended j (At u) e h = apart-more (keyDowns row thr j) (keyDown u (suc j)) h (λ d m. before-pending j u d e m)
-  apart-ended j Nothing e h = subst Apart (sym (append-nil (keyDowns row thr j))) h
-
-  pub ups-rise : (j : ℕ) → Apart (keyDowns row thr j)
+  pub in-order : (j : ℕ) → InOrder (keyDowns row thr j)
   unfolding keyDowns
-  ups-rise zero = λ a b h g. absurd (not-suc-le-zero g)
-  ups-rise (suc j) =
-      ⊎-elim (λ d. subst Apart (sym (keys-down row thr j d)) (apart-ended j (pending row thr j) refl (ups-rise j)))
-      (λ d. subst Apart (sym (keys-same row thr j d)) (ups-rise j))
+  in-order zero = tt
+  in-order (suc j) =
+      ⊎-elim (λ d. subst InOrder (sym (key-downs-more row thr j d)) (in-order-ended j (pending row thr j) refl (in-order j)))
+      (λ d. subst InOrder (sym (key-downs-same row thr j d)) (in-order j))
       (either (downward row thr (suc j)))
 
   -- ---- two key-downs take four crossings: a row of n amplitudes has at most (n − 1) / 2 key-downs
-  places-of : (r : Rising) (j : ℕ) (ks : List KeyDown) → Held r j ks → 2 * length ks ≤ j
+  places-of : (r : Rising) (j : ℕ) (ks : List KeyDown) → Spaced r j ks → 2 * length ks ≤ j
   places-of (At u) j ks h = omega arith
   places-of Nothing j ks h = omega arith
 
   pub places : (j : ℕ) → 2 * length (keyDowns row thr j) ≤ j
-  places j = places-of (pending row thr j) j (keyDowns row thr j) (held row thr j)
-
-  -- with B − 7 amplitudes: at most floor(B/2)
-  pub places-enough : (blocks : ℕ) → length (keyDowns row thr (blocks - 7 - 1)) ≤ blocks / 2
-  places-enough blocks = let h = places (blocks - 7 - 1) in omega arith
+  places j = places-of (pending row thr j) j (keyDowns row thr j) (spaced row thr j)
 
 -- ---- listed and short: the long ones and the others, none of them twice and none left out
-module _ (p : KeyDown → Bool) (k : KeyDown) where
-  chosen-is : (x : KeyDown) (t : Bool) (some all : List KeyDown) → p x ≡ t → (List·Memᴰ k some → List·Memᴰ k all × (p k ≡ true))
-      → List·Memᴰ k (cond t (x ∷ some) some) → List·Memᴰ k (x ∷ all) × (p k ≡ true)
-  chosen-is x true some all e below m =
-      ⊎-elim (λ q. (List·Memᴰ·head q, ap p q ∙ e)) (λ r. (List·Memᴰ·tail (below r .0), below r .1)) (List·Memᴰ·cases-cons m)
-  chosen-is x false some all e below m = (List·Memᴰ·tail (below m .0), below m .1)
-
-  is-chosen : (x : KeyDown) (t : Bool) (some all : List KeyDown) → p x ≡ t → p k ≡ true → (List·Memᴰ k all → List·Memᴰ k some)
-      → List·Memᴰ k (x ∷ all) → List·Memᴰ k (cond t (x ∷ some) some)
-  is-chosen x true some all e h below m = ⊎-elim (λ q. List·Memᴰ·head q) (λ r. List·Memᴰ·tail (below r)) (List·Memᴰ·cases-cons m)
-  is-chosen x false some all e h below m =
-      ⊎-elim (λ q. absurd (false≢true (sym e ∙ (sym (ap p q) ∙ h)))) below (List·Memᴰ·cases-cons m)
-
-  pub those-are : (ks : List KeyDown) → List·Memᴰ k (those p ks) → List·Memᴰ k ks × (p k ≡ true)
-  unfolding those
-  those-are [] m = absurd (List·Memᴰ·not-nil m)
-  those-are (x ∷ ks) m = chosen-is x (p x) (those p ks) ks refl (those-are ks) m
-
-  pub are-those : (ks : List KeyDown) → p k ≡ true → List·Memᴰ k ks → List·Memᴰ k (those p ks)
-  unfolding those
-  are-those [] h m = m
-  are-those (x ∷ ks) h m = is-chosen x (p x) (those p ks) ks refl h (are-those ks h) m
-
-one-of-two : (t : Bool) (x : KeyDown) (a b : List KeyDown) (n : ℕ) → n ≡ length a + length b
-    → suc n ≡ length (cond t (x ∷ a) a) + length (cond (not t) (x ∷ b) b)
-one-of-two true x a b n e = omega arith
-one-of-two false x a b n e = omega arith
-
-those-balance : (p : KeyDown → Bool) (ks : List KeyDown) → length ks ≡ length (those p ks) + length (those (λ k. not (p k)) ks)
+pub those-in-order : (p : KeyDown → Bool) (ks : List KeyDown) → InOrder ks → InOrder (those p ks)
 unfolding those
-those-balance p [] = omega arith
-those-balance p (x ∷ ks) = one-of-two (p x) x (those p ks) (those (λ k. not (p k)) ks) (length ks) (those-balance p ks)
+those-in-order p [] h = tt
+those-in-order p (k ∷ ks) h = go (p k) (those-in-order p ks (h .1))
+  where
+    go : (t : Bool) → InOrder (those p ks) → InOrder (cond t (k ∷ those p ks) (those p ks))
+    go true rest = (λ d m. h .0 d (those-are p ks d .0 m .0), rest)
+    go false rest = rest
 
 module _ (row : ℕ → Float) (thr : Float) (step : ℕ) (fs : Float) where
   -- A key-down is listed exactly if it is one of the row's and is long.
   pub listed-is : (ks : List KeyDown) (k : KeyDown) → List·Memᴰ k (listedOf row thr step fs ks) ↔ (List·Memᴰ k ks × (long row thr step fs k ≡ true))
   unfolding listedOf
-  listed-is ks k = (those-are (long row thr step fs) k ks, λ h. are-those (long row thr step fs) k ks (h .1) (h .0))
+  listed-is = those-are (long row thr step fs)
 
   -- Key-downs are listed or short.
   pub balance : (j : ℕ) → foundTo row thr step fs j .«key_downs» ≡ foundTo row thr step fs j .listed + foundTo row thr step fs j .short
   unfolding foundTo counts listedOf shortOf
-  balance j = those-balance (long row thr step fs) (keyDowns row thr j)
+  balance j = those-others (long row thr step fs) (keyDowns row thr j)

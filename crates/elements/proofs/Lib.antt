@@ -1,13 +1,28 @@
--- The laws behind the proofs of `elements`, and its theorems.
-pub mod Compared
+-- Laws that the proofs of `elements` share and that the crates above cite, and its theorems, by subject.
+
+-- Records     records of any kind in a list, by their width and where they are stored: `Kind`, `stored-handed`; of
+--             elements: `element-kind`, `elements-handed`; what a promise says: `elements-read`, `elements-again`
+-- Compared    an amplitude lies below a threshold or reaches it: `apart`, `total`
+-- Joined      counts and elements of one list of key-downs behind another
+-- Walk        a turn of the loop over a row: what is pending, counted and stored; how small the counts are
+-- KeyDowns    which pairs `keyDowns` has: `key-down-is`; their order: `in-order`; `listed-is`, `places`
+-- Same        rows that agree have the same key-downs, counts and elements
+-- Bounds      the numbers of every element found are finite: `found-bounded`; `threshold-amount`, `recorded-is`
+-- Recording   counts of a recording: `key-downs-counted`, `listed-counted`, `all-counted`; `enough-places`
+-- Exactly     what is found and handed out: the long key-downs, each once, in order, and nothing else: `found-exactly`,
+--             `handed-exactly`; without a threshold nothing: `found-nothing`, `handed-nothing`
+-- Ways        the ways out of `find_elements`
+-- Ones        recordings of zeros and ones at carrier 0: `length-ones`, `sample-ones`, `derot-ones`, `row-ones`
+-- Edges       01's edge table, the rows of elements: `edges`, `step-3000`, `window-3000`, `finds`
 pub mod Records
-pub mod Lists
+pub mod Compared
+pub mod Joined
 pub mod Walk
 pub mod KeyDowns
 pub mod Same
-pub mod Ways
 pub mod Bounds
 pub mod Recording
-pub mod Unturned
+pub mod Exactly
+pub mod Ways
+pub mod Ones
 pub mod Edges
-pub mod Laws

@@ -3,21 +3,20 @@
 use Prim.Native.Nat.{ℕ, _+_, _-_, _*_, _/_, _≤_}
 use native.Mathlib.Omega.{arith}
 use mathlib.Core.Path.{_≡_, refl, sym}
-use mathlib.Core.Bool.{true}
-use mathlib.Core.List.{List, List·Memᴰ, Memᴰ·map}
+use mathlib.Core.List.{List}
 use lib.ListN.{length, length-map}
 use lib.Ieee.{Float}
 use Rattle.row.specs.Window.{stepOf, stepBlocks}
 use Rattle.row.specs.Envelope.{rowOf, rowLength}
-use Rattle.elements.specs.Keying.{KeyDown, keyDowns, elementOf, long, listedOf, counts, elementsOf, foundTo, elementsTo}
+use Rattle.elements.specs.Keying.{keyDowns, elementOf, listedOf, counts, elementsOf, foundTo, elementsTo}
 use Rattle.elements.specs.Find.{Threshold, At, Absent, thresholdOf, keyDownsAt, foundAt, elementsAt, keyDownsOf, foundOf, elementsFound}
-use Rattle.elements.proofs.KeyDowns.{listed-is, balance, places}
+use Rattle.elements.proofs.KeyDowns.{balance, places}
 
 module _ (row : ℕ → Float) (last step : ℕ) (fs : Float) where
-  keys-at : (t : Threshold) → foundAt row last step fs t .«key_downs» ≡ length (keyDownsAt row last step fs t)
+  key-downs-at : (t : Threshold) → foundAt row last step fs t .«key_downs» ≡ length (keyDownsAt row last step fs t)
   unfolding foundTo counts
-  keys-at (At thr) = refl
-  keys-at Absent = refl
+  key-downs-at (At thr) = refl
+  key-downs-at Absent = refl
 
   listed-at : (t : Threshold) → foundAt row last step fs t .listed ≡ length (elementsAt row last step fs t)
   unfolding foundTo counts elementsTo elementsOf
@@ -36,7 +35,7 @@ module _ (iq : List Float) (fs carrier : Float) where
   -- Key-downs and listed, as counts, are how many of each there are, and each key-down is listed or short.
   pub key-downs-counted : foundOf iq fs carrier .«key_downs» ≡ length (keyDownsOf iq fs carrier)
   unfolding foundOf keyDownsOf
-  key-downs-counted = keys-at (rowOf iq fs carrier) (rowLength iq fs - 1) (stepOf fs) fs (thresholdOf iq fs carrier)
+  key-downs-counted = key-downs-at (rowOf iq fs carrier) (rowLength iq fs - 1) (stepOf fs) fs (thresholdOf iq fs carrier)
 
   pub listed-counted : foundOf iq fs carrier .listed ≡ length (elementsFound iq fs carrier)
   unfolding foundOf elementsFound
@@ -53,13 +52,3 @@ module _ (iq : List Float) (fs carrier : Float) where
       let few = few-at (rowOf iq fs carrier) (rowLength iq fs - 1) (stepOf fs) fs (thresholdOf iq fs carrier) in
       let many = key-downs-counted in
       omega arith
-
-  -- A key-down of the recording that is long is one of the elements found.
-  pub long-listed : (thr : Float) (k : KeyDown) → thresholdOf iq fs carrier ≡ At thr → List·Memᴰ k (keyDownsOf iq fs carrier)
-      → long (rowOf iq fs carrier) thr (stepOf fs) fs k ≡ true → List·Memᴰ (elementOf (rowOf iq fs carrier) thr (stepOf fs) k) (elementsFound iq fs carrier)
-  unfolding keyDownsOf elementsFound elementsTo elementsOf
-  long-listed thr k at m so =
-      let row = rowOf iq fs carrier in
-      let ks = keyDowns row thr (rowLength iq fs - 1) in
-      let m' = rw at at m in
-      rw at (Memᴰ·map (elementOf row thr (stepOf fs)) (listed-is row thr (stepOf fs) fs ks k .1 (m', so)))

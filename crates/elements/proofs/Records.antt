@@ -1,10 +1,10 @@
--- Records of so many numbers in a list: stored one after the other, read back, and what a list then hands out. Said once,
--- of a kind of record with its width and the functions that read and store one at a number offset; `element-kind` is that
--- of elements. Assumes nothing.
+-- Records of so many numbers in a list: stored one after the other, read back, and what a list then hands out. Said
+-- once, of a kind of record with its width and the functions that read and store one from a number on; `element-kind`
+-- is that of elements. Assumes nothing.
 use Prim.Native.Nat.{ℕ, zero, suc, _+_, _*_, _/_, _≤_, _<_}
-use native.Mathlib.Nat.{not-suc-le-zero, le-of-suc-le-suc, mul-le-mul-left, mul-suc, mul-add, mul-comm, mul-zero, le-div-iff-mul-le}
+use native.Mathlib.Nat.{not-suc-le-zero, le-of-suc-le-suc, mul-le-mul-left, mul-suc, mul-comm, le-div-iff-mul-le}
 use native.Mathlib.Omega.{arith}
-use mathlib.Core.Path.{_≡_, refl, sym, ap, _∙_}
+use mathlib.Core.Path.{_≡_, refl, ap, _∙_}
 use mathlib.Core.List.{List, [], _∷_, _++_}
 use lib.ListN.{length, getD, set, drop, length-set}
 use lib.Seq.{getD-set-same, getD-set-other, drop-set-lt}
@@ -12,10 +12,10 @@ use lib.Ieee.{Float, nan}
 use Rattle.lists.specs.Firsts.{firsts}
 use Rattle.lists.proofs.Firsts.{firsts-all}
 use Rattle.elements.specs.declared.element.KeyedElement.{KeyedElement}
-use Rattle.elements.specs.Element.{ELEMENT, elementFrom, elementAt, elementsIn, restOf, Handed, handed, handedElements}
-use Rattle.elements.specs.Inner.{putElementFrom, storedBy, storedFrom, stored}
+use Rattle.elements.specs.Element.{ELEMENT, elementFrom, elementsIn, beyondPlaces, Handed, handed, handedElements}
+use Rattle.elements.specs.Inner.{putElementFrom, storedBy, stored}
 
--- ---- one record: what its two functions have to do with its width
+-- ---- one record: what the two functions have to do with its width
 pub record Kind (A : Type 0) (width : ℕ) (get : List Float → ℕ → A) (put : List Float → ℕ → A → List Float) : Type 0 where
   pub some : 1 ≤ width
   pub length-put : (l : List Float) (at : ℕ) (x : A) → length (put l at x) ≡ length l
@@ -70,8 +70,8 @@ module _ {A : Type 0} (width : ℕ) (get : List Float → ℕ → A) (put : List
       let next = mul-suc width p in
       stored-after (put l (width * p) x) (suc p) xs n (rw (← all) h) ∙ kind .drop-put l (width * p) x n (omega arith)
 
-  -- A list in which records are stored from its start on hands out these records, and its rest and its length are as they
-  -- were.
+  -- A list in which records are stored from its start on hands out these records, and its rest and its length are as
+  -- they were.
   pub stored-handed : (l : List Float) (xs : List A) → width * length xs ≤ length l
       → handed width (firsts (λ p. get (storedBy width put l 0 xs) (width * p)) (length xs)) (storedBy width put l 0 xs) ≡ handed width xs l
   unfolding handed
@@ -91,59 +91,59 @@ pub handed-again : {A : Type 0} (width : ℕ) (h : Handed A) (xs ys zs : List A)
     → h ≡ handed width xs mid → handed width ys mid ≡ handed width zs l → h ≡ handed width xs l
 unfolding handed
 handed-again {A} width h xs ys zs mid l e f =
-    let rest : restOf width mid ≡ restOf width l = ap (λ (g : Handed A). g .rest) f in
+    let rest : beyondPlaces width mid ≡ beyondPlaces width l = ap (λ (g : Handed A). g .rest) f in
     let size : length mid ≡ length l = ap (λ (g : Handed A). g .size) f in
     e ∙ rw (rest, size)
 
 -- ---- elements
 module _ (l : List Float) (at : ℕ) (e : KeyedElement) where
-  one : List Float
-  one = set l at (e .start)
+  with-start : List Float
+  with-start = set l at (e .start)
 
-  two : List Float
-  unfolding one
-  two = set one (at + 1) (e .end)
+  with-end : List Float
+  unfolding with-start
+  with-end = set with-start (at + 1) (e .end)
 
-  three : List Float
-  unfolding two
-  three = set two (at + 2) (e .up)
+  with-up : List Float
+  unfolding with-end
+  with-up = set with-end (at + 2) (e .up)
 
   pub before-element : (x : ℕ) → x < at → getD (putElementFrom l at e) x nan ≡ getD l x nan
-  unfolding three
+  unfolding with-up
   before-element x h =
-      getD-set-other three (at + 3) x (e .down) nan (omega arith) ∙ getD-set-other two (at + 2) x (e .up) nan (omega arith)
-      ∙ getD-set-other one (at + 1) x (e .end) nan (omega arith) ∙ getD-set-other l at x (e .start) nan (omega arith)
+      getD-set-other with-up (at + 3) x (e .down) nan (omega arith) ∙ getD-set-other with-end (at + 2) x (e .up) nan (omega arith)
+      ∙ getD-set-other with-start (at + 1) x (e .end) nan (omega arith) ∙ getD-set-other l at x (e .start) nan (omega arith)
 
   pub element-before : (from : ℕ) → from + ELEMENT ≤ at → elementFrom (putElementFrom l at e) from ≡ elementFrom l from
   element-before from h =
       rw (before-element from (omega arith), before-element (from + 1) (omega arith), before-element (from + 2) (omega arith), before-element (from + 3) (omega arith))
 
   pub element-after : (n : ℕ) → at + ELEMENT ≤ n → drop n (putElementFrom l at e) ≡ drop n l
-  unfolding three
+  unfolding with-up
   element-after n h =
-      drop-set-lt n three (at + 3) (e .down) (omega arith) ∙ drop-set-lt n two (at + 2) (e .up) (omega arith) ∙ drop-set-lt n one (at + 1) (e .end) (omega arith)
+      drop-set-lt n with-up (at + 3) (e .down) (omega arith) ∙ drop-set-lt n with-end (at + 2) (e .up) (omega arith) ∙ drop-set-lt n with-start (at + 1) (e .end) (omega arith)
       ∙ drop-set-lt n l at (e .start) (omega arith)
 
   module _ (room : at + ELEMENT ≤ length l) where
     start-is : getD (putElementFrom l at e) at nan ≡ e .start
-    unfolding three
+    unfolding with-up
     start-is =
-        getD-set-other three (at + 3) at (e .down) nan (omega arith) ∙ getD-set-other two (at + 2) at (e .up) nan (omega arith)
-        ∙ getD-set-other one (at + 1) at (e .end) nan (omega arith) ∙ getD-set-same l at (e .start) nan (omega arith)
+        getD-set-other with-up (at + 3) at (e .down) nan (omega arith) ∙ getD-set-other with-end (at + 2) at (e .up) nan (omega arith)
+        ∙ getD-set-other with-start (at + 1) at (e .end) nan (omega arith) ∙ getD-set-same l at (e .start) nan (omega arith)
 
     end-is : getD (putElementFrom l at e) (at + 1) nan ≡ e .end
-    unfolding three
+    unfolding with-up
     end-is =
-        getD-set-other three (at + 3) (at + 1) (e .down) nan (omega arith) ∙ getD-set-other two (at + 2) (at + 1) (e .up) nan (omega arith)
-        ∙ getD-set-same one (at + 1) (e .end) nan (simp length-set (omega arith))
+        getD-set-other with-up (at + 3) (at + 1) (e .down) nan (omega arith) ∙ getD-set-other with-end (at + 2) (at + 1) (e .up) nan (omega arith)
+        ∙ getD-set-same with-start (at + 1) (e .end) nan (simp length-set (omega arith))
 
     up-is : getD (putElementFrom l at e) (at + 2) nan ≡ e .up
-    unfolding three
-    up-is = getD-set-other three (at + 3) (at + 2) (e .down) nan (omega arith) ∙ getD-set-same two (at + 2) (e .up) nan (simp length-set (omega arith))
+    unfolding with-up
+    up-is = getD-set-other with-up (at + 3) (at + 2) (e .down) nan (omega arith) ∙ getD-set-same with-end (at + 2) (e .up) nan (simp length-set (omega arith))
 
     down-is : getD (putElementFrom l at e) (at + 3) nan ≡ e .down
-    unfolding three
-    down-is = getD-set-same three (at + 3) (e .down) nan (simp length-set (omega arith))
+    unfolding with-up
+    down-is = getD-set-same with-up (at + 3) (e .down) nan (simp length-set (omega arith))
 
     pub element-put : elementFrom (putElementFrom l at e) at ≡ e
     element-put = rw (start-is, end-is, up-is, down-is)

@@ -3,22 +3,13 @@
 use Prim.Native.Nat.{ℕ, zero, suc, _-_, _≤_}
 use native.Mathlib.Omega.{arith}
 use mathlib.Core.Path.{_≡_, refl, ap}
-use mathlib.Core.Bool.{Bool, not}
-use mathlib.Core.List.{List, [], _∷_, map, List·Memᴰ, List·Memᴰ·head, List·Memᴰ·tail}
+use mathlib.Core.Bool.{not}
+use mathlib.Core.List.{List·Memᴰ}
 use lib.Ieee.{Float}
-use Rattle.elements.specs.declared.element.KeyedElement.{KeyedElement}
 use Rattle.elements.specs.Keying.{upward, downward, KeyDown, pending, keyDowns, crossedAt, elementOf, long, listedOf, shortOf, counts, elementsOf, foundTo, elementsTo}
 use Rattle.lists.specs.Those.{those}
-use Rattle.elements.proofs.KeyDowns.{members, those-are}
-
-those-same : (p q : KeyDown → Bool) (ks : List KeyDown) → ((k : KeyDown) → List·Memᴰ k ks → p k ≡ q k) → those p ks ≡ those q ks
-unfolding those
-those-same p q [] h = refl
-those-same p q (k ∷ ks) h = rw (h k (List·Memᴰ·head refl), those-same p q ks (λ d m. h d (List·Memᴰ·tail m)))
-
-map-same : (p q : KeyDown → KeyedElement) (ks : List KeyDown) → ((k : KeyDown) → List·Memᴰ k ks → p k ≡ q k) → map p ks ≡ map q ks
-map-same p q [] h = refl
-map-same p q (k ∷ ks) h = rw (h k (List·Memᴰ·head refl), map-same p q ks (λ d m. h d (List·Memᴰ·tail m)))
+use Rattle.lists.proofs.Members.{map-same, those-are, those-same}
+use Rattle.elements.proofs.KeyDowns.{members}
 
 module _ (f g : ℕ → Float) (thr : Float) (last : ℕ) (same : (i : ℕ) → i ≤ last → f i ≡ g i) where
   upward-same : (i : ℕ) → i ≤ last → upward f thr i ≡ upward g thr i
@@ -34,10 +25,10 @@ module _ (f g : ℕ → Float) (thr : Float) (last : ℕ) (same : (i : ℕ) → 
   pending-same zero h = refl
   pending-same (suc j) h = rw (upward-same (suc j) h, downward-same (suc j) h, pending-same j (omega arith))
 
-  keys-same : (j : ℕ) → j ≤ last → keyDowns f thr j ≡ keyDowns g thr j
+  key-downs-agree : (j : ℕ) → j ≤ last → keyDowns f thr j ≡ keyDowns g thr j
   unfolding keyDowns
-  keys-same zero h = refl
-  keys-same (suc j) h = rw (downward-same (suc j) h, pending-same j (omega arith), keys-same j (omega arith))
+  key-downs-agree zero h = refl
+  key-downs-agree (suc j) h = rw (downward-same (suc j) h, pending-same j (omega arith), key-downs-agree j (omega arith))
 
   module _ (step : ℕ) (fs : Float) where
     element-same : (k : KeyDown) → List·Memᴰ k (keyDowns g thr last) → elementOf f thr step k ≡ elementOf g thr step k
@@ -62,14 +53,14 @@ module _ (f g : ℕ → Float) (thr : Float) (last : ℕ) (same : (i : ℕ) → 
 
     pub found-same : foundTo f thr step fs last ≡ foundTo g thr step fs last
     unfolding foundTo counts
-    found-same = rw (keys-same last (omega arith), listed-same, short-same)
+    found-same = rw (key-downs-agree last (omega arith), listed-same, short-same)
 
     pub elements-same : elementsTo f thr step fs last ≡ elementsTo g thr step fs last
     unfolding elementsTo elementsOf listedOf
     elements-same =
         let p = long g thr step fs in
-        rw (keys-same last (omega arith), listed-so)
-        (map-same (elementOf f thr step) (elementOf g thr step) (those p (keyDowns g thr last)) (λ k m. element-same k (those-are p k (keyDowns g thr last) m .0)))
+        rw (key-downs-agree last (omega arith), listed-so)
+        (map-same (elementOf f thr step) (elementOf g thr step) (those p (keyDowns g thr last)) (λ k m. element-same k (those-are p (keyDowns g thr last) k .0 m .0)))
       where
         listed-so : those (long f thr step fs) (keyDowns g thr last) ≡ those (long g thr step fs) (keyDowns g thr last)
         listed-so = listed-same

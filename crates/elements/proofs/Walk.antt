@@ -18,9 +18,13 @@ use Rattle.elements.specs.Element.{ELEMENT, elementFrom}
 use Rattle.elements.specs.Inner.{putElementFrom, putElement, storedBy, stored, storedFrom, foundPlus, oneListed, oneShort, Room, Ending}
 use Rattle.lists.specs.Those.{those}
 use Rattle.elements.proofs.Compared.{apart}
-use Rattle.elements.proofs.Lists.{airtime-append, airtime-steps, those-less, counts-append, elements-append}
+use Rattle.elements.proofs.Joined.{airtime-append, airtime-steps, those-less, counts-append, elements-append}
 use Rattle.elements.proofs.Records.{length-stored, stored-append, element-kind}
 use Rattle.lists.proofs.Those.{those-shorter}
+
+-- a position times the step is far below 2^53
+pub small-product : (i step : ℕ) → i ≤ 2 ^ 20 → step ≤ 64 → i * step ≤ 2 ^ 26
+small-product i step h g = mul-le-mul h g
 
 -- no crossing is both upward and downward
 pub one-way : (row : ℕ → Float) (thr : Float) (i : ℕ) → upward row thr i ≡ true → downward row thr i ≡ false
@@ -41,36 +45,36 @@ module _ (row : ℕ → Float) (thr : Float) (j : ℕ) where
   unfolding pending
   pending-same h d = rw (h, d)
 
-  pub keys-down : downward row thr (suc j) ≡ true → keyDowns row thr (suc j) ≡ keyDowns row thr j ++ ended (pending row thr j) (suc j)
+  pub key-downs-more : downward row thr (suc j) ≡ true → keyDowns row thr (suc j) ≡ keyDowns row thr j ++ ended (pending row thr j) (suc j)
   unfolding keyDowns
-  keys-down d = rw d
+  key-downs-more d = rw d
 
-  pub keys-same : downward row thr (suc j) ≡ false → keyDowns row thr (suc j) ≡ keyDowns row thr j
+  pub key-downs-same : downward row thr (suc j) ≡ false → keyDowns row thr (suc j) ≡ keyDowns row thr j
   unfolding keyDowns
-  keys-same d = rw d (append-nil (keyDowns row thr j))
+  key-downs-same d = rw d (append-nil (keyDowns row thr j))
 
 -- ---- how many key-downs there are at most, and how long they are together: they lie one behind the other
-abbrev pub Held : Rising → ℕ → List KeyDown → Type 0
-Held (At u) j ks = (1 ≤ u) × (u ≤ j) × (2 * length ks + 1 ≤ u) × (airtimeOf 1 ks ≤ u)
-Held Nothing j ks = (2 * length ks ≤ j) × (airtimeOf 1 ks ≤ j)
+abbrev pub Spaced : Rising → ℕ → List KeyDown → Type 0
+Spaced (At u) j ks = (1 ≤ u) × (u ≤ j) × (2 * length ks + 1 ≤ u) × (airtimeOf 1 ks ≤ u)
+Spaced Nothing j ks = (2 * length ks ≤ j) × (airtimeOf 1 ks ≤ j)
 
-held-step : (rises falls : Bool) (r : Rising) (j : ℕ) (ks : List KeyDown) → (rises ≡ true → falls ≡ false) → Held r j ks
-    → Held (cond rises (At (suc j)) (cond falls Nothing r)) (suc j) (ks ++ cond falls (ended r (suc j)) [])
+spaced-step : (rises falls : Bool) (r : Rising) (j : ℕ) (ks : List KeyDown) → (rises ≡ true → falls ≡ false) → Spaced r j ks
+    → Spaced (cond rises (At (suc j)) (cond falls Nothing r)) (suc j) (ks ++ cond falls (ended r (suc j)) [])
 unfolding airtimeOf
-held-step true true r j ks one h = absurd (true≢false (one refl))
-held-step true false (At u) j ks one h = rw (append-nil ks) (omega arith, omega arith, omega arith, omega arith)
-held-step true false Nothing j ks one h = rw (append-nil ks) (omega arith, omega arith, omega arith, omega arith)
-held-step false true (At u) j ks one h =
+spaced-step true true r j ks one h = absurd (true≢false (one refl))
+spaced-step true false (At u) j ks one h = rw (append-nil ks) (omega arith, omega arith, omega arith, omega arith)
+spaced-step true false Nothing j ks one h = rw (append-nil ks) (omega arith, omega arith, omega arith, omega arith)
+spaced-step false true (At u) j ks one h =
     rw (length-append ks (keyDown u (suc j) ∷ []), airtime-append 1 ks (keyDown u (suc j) ∷ [])) (omega arith, omega arith)
-held-step false true Nothing j ks one h = rw (append-nil ks) (omega arith, omega arith)
-held-step false false (At u) j ks one h = rw (append-nil ks) (omega arith, omega arith, omega arith, omega arith)
-held-step false false Nothing j ks one h = rw (append-nil ks) (omega arith, omega arith)
+spaced-step false true Nothing j ks one h = rw (append-nil ks) (omega arith, omega arith)
+spaced-step false false (At u) j ks one h = rw (append-nil ks) (omega arith, omega arith, omega arith, omega arith)
+spaced-step false false Nothing j ks one h = rw (append-nil ks) (omega arith, omega arith)
 
-pub held : (row : ℕ → Float) (thr : Float) (j : ℕ) → Held (pending row thr j) j (keyDowns row thr j)
+pub spaced : (row : ℕ → Float) (thr : Float) (j : ℕ) → Spaced (pending row thr j) j (keyDowns row thr j)
 unfolding pending keyDowns airtimeOf
-held row thr zero = (omega arith, omega arith)
-held row thr (suc j) =
-    held-step (upward row thr (suc j)) (downward row thr (suc j)) (pending row thr j) j (keyDowns row thr j) (one-way row thr (suc j)) (held row thr j)
+spaced row thr zero = (omega arith, omega arith)
+spaced row thr (suc j) =
+    spaced-step (upward row thr (suc j)) (downward row thr (suc j)) (pending row thr j) j (keyDowns row thr j) (one-way row thr (suc j)) (spaced row thr j)
 
 -- ---- the same of the code's counts, where a key-down ends at i
 room-of : (ks : List KeyDown) (p q : KeyDown → Bool) (u step : ℕ) → u ≤ 2 ^ 20 → step ≤ 64 → 2 * length ks + 1 ≤ u → airtimeOf 1 ks ≤ u
@@ -81,10 +85,10 @@ room-of ks p q u step h g few brief =
     let air = those-less p step ks in
     let steps = airtime-steps step ks in
     let most : airtimeOf 1 ks * step ≤ 2 ^ 20 * 64 = mul-le-mul {n₁ = airtimeOf 1 ks} {n₂ = 2 ^ 20} (omega arith) g in
-    record { keys = omega arith; long = omega arith; brief = omega arith; air = omega arith }
+    record { key-downs = omega arith; long = omega arith; brief = omega arith; air = omega arith }
 
 module _ (row : ℕ → Float) (thr : Float) (step : ℕ) (fs : Float) where
-  ending-of : (u i : ℕ) (r : Rising) → i ≤ 2 ^ 20 → 1 ≤ i → step ≤ 64 → At u ≡ r → Held r (i - 1) (keyDowns row thr (i - 1)) → Ending (foundTo row thr step fs (i - 1)) u i
+  ending-of : (u i : ℕ) (r : Rising) → i ≤ 2 ^ 20 → 1 ≤ i → step ≤ 64 → At u ≡ r → Spaced r (i - 1) (keyDowns row thr (i - 1)) → Ending (foundTo row thr step fs (i - 1)) u i
   unfolding foundTo counts listedOf shortOf
   ending-of u i (At v) h p g e k =
       let same : u ≡ v = cc in
@@ -99,7 +103,7 @@ module _ (row : ℕ → Float) (thr : Float) (step : ℕ) (fs : Float) where
 
   pub ending : (rising : Rising) (u i : ℕ) (found : Found) → rising ≡ At u → rising ≡ pending row thr (i - 1) → found ≡ foundTo row thr step fs (i - 1)
       → 1 ≤ i → i ≤ 2 ^ 20 → step ≤ 64 → Ending found u i
-  ending rising u i found e p q one small g = rw q (ending-of u i (pending row thr (i - 1)) small one g (sym e ∙ p) (held row thr (i - 1)))
+  ending rising u i found e p q one small g = rw q (ending-of u i (pending row thr (i - 1)) small one g (sym e ∙ p) (spaced row thr (i - 1)))
 
   -- ---- what a key-down counts, and what is stored of it
   module _ (k : KeyDown) where
@@ -187,13 +191,13 @@ module _ (row : ℕ → Float) (thr : Float) (step : ℕ) (fs : Float) where
       up-next : upward row thr (suc j) ≡ true → Walked l (suc j) (At (suc j)) found cur
       unfolding foundTo elementsTo
       up-next h =
-          let same = keys-same row thr j (one-way row thr (suc j) h) in
+          let same = key-downs-same row thr j (one-way row thr (suc j) h) in
           record { waiting = sym (pending-up row thr j h); counted = rw same (w .counted); written = rw same (w .written) }
 
       none-next : upward row thr (suc j) ≡ false → downward row thr (suc j) ≡ false → Walked l (suc j) rising found cur
       unfolding foundTo elementsTo
       none-next h d =
-          let same = keys-same row thr j d in
+          let same = key-downs-same row thr j d in
           record { waiting = w .waiting ∙ sym (pending-same row thr j h d); counted = rw same (w .counted); written = rw same (w .written) }
 
       down-next : (r : Found) (out : List Float) → upward row thr (suc j) ≡ false → downward row thr (suc j) ≡ true
@@ -202,7 +206,7 @@ module _ (row : ℕ → Float) (thr : Float) (step : ℕ) (fs : Float) where
           → Walked l (suc j) Nothing r out
       unfolding foundTo elementsTo
       down-next r out h d e =
-          let more = keys-down row thr j d in
+          let more = key-downs-more row thr j d in
           let new = ended (pending row thr j) (suc j) in
           let e' = rw (w .waiting) at e in
           record {

@@ -1,13 +1,13 @@
 -- The ways out of `find_elements`, and what holds where none was taken. Assumes nothing.
-use Prim.Native.Nat.{ℕ, _+_, _-_, _*_, _/_, _≤_, _<_}
+use Prim.Native.Nat.{ℕ, _+_, _-_, _*_, _/_, _^_, _≤_, _<_}
 use native.Mathlib.Nat.{div-le-self}
 use native.Mathlib.Omega.{arith}
-use mathlib.Core.Path.{_≡_, refl, ap, _∙_}
+use mathlib.Core.Path.{_≡_, ap, _∙_}
 use mathlib.Core.Bool.{true, false}
 use mathlib.Core.List.{List}
 use lib.ListN.{length, getD, take, drop}
-use lib.Ieee.{Float, nan, lt, ofBits, round}
-use Rattle.float.specs.Ops.{_⊗_, _⊘_, bits, fraction, half, zero}
+use lib.Ieee.{Float, nan, lt}
+use Rattle.float.specs.Ops.{_⊗_, _⊘_, bits, half, zero}
 use Rattle.complex.specs.Rows.{zFill}
 use Rattle.lists.specs.Fill.{fill}
 use Rattle.row.specs.Window.{Rate, stepOf, windowOf, samples, blocks, stepBlocks}
@@ -25,7 +25,6 @@ use Rattle.elements.specs.declared.keying.Found.{Found}
 use Rattle.elements.specs.Keying.{none, foundTo, elementsTo}
 use Rattle.elements.specs.Element.{ELEMENT, elementsIn, handed, handedElements}
 use Rattle.elements.specs.Inner.{stored}
-use Rattle.constants.specs.Constants.{EDGE_PERCENTILE}
 use Rattle.elements.specs.Find.{Absent, halfOf, thresholdOf, foundOf, elementsFound}
 use Rattle.elements.proofs.Same.{found-same, elements-same}
 use Rattle.elements.proofs.Records.{elements-handed}
@@ -38,7 +37,7 @@ pub record Entered (iq : List Float) (fs : Float) (step : ℕ) : Type 0 where
   pub least : 1 ≤ step
   pub most : step ≤ 64
   pub eight : 8 ≤ length iq / 2 / step
-  pub few : length iq / 2 / step ≤ 1048576
+  pub few : length iq / 2 / step ≤ 2 ^ 20
 
 pub entered : (iq : List Float) (fs : Float) (step : ℕ) → Iq iq → Rate fs → step ≡ stepOf fs → 8 * step ≤ length iq / 2 → Entered iq fs step
 entered iq fs step i r e h =

@@ -25,8 +25,8 @@ elementsIn l count = firsts (elementAt l) count
 -- ---- a list that a call fills
 
 -- the numbers after the last whole place of `width` numbers; they are no place
-abbrev pub restOf : ℕ → List Float → List Float
-restOf width l = drop (width * (length l / width)) l
+abbrev pub beyondPlaces : ℕ → List Float → List Float
+beyondPlaces width l = drop (width * (length l / width)) l
 
 -- What is promised of it: the records at its first places, as many as the call counts, the numbers after its last whole
 -- place, and its length. Free are the list places past the count.
@@ -37,7 +37,7 @@ pub record Handed (A : Type 0) : Type 0 where
 
 -- these records, with the rest and the length of the list l
 unfoldable pub handed : {A : Type 0} → ℕ → List A → List Float → Handed A
-handed width records l = record { records = records; rest = restOf width l; size = length l }
+handed width records l = record { records = records; rest = beyondPlaces width l; size = length l }
 
 -- what a list hands out at its first `count` places of elements
 unfoldable pub handedElements : List Float → ℕ → Handed KeyedElement

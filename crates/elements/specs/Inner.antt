@@ -44,7 +44,7 @@ oneShort = record { «key_downs» = 1; listed = 0; short = 1; airtime = 0 }
 
 -- the counts of a row of at most 2^20 amplitudes, at most 64 samples apart, are this small
 pub record Room (a : Found) : Type 0 where
-  pub keys : a .«key_downs» ≤ 2 ^ 20
+  pub key-downs : a .«key_downs» ≤ 2 ^ 20
   pub long : a .listed ≤ 2 ^ 20
   pub brief : a .short ≤ 2 ^ 20
   pub air : a .airtime ≤ 2 ^ 26

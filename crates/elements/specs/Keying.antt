@@ -3,12 +3,14 @@
 use Prim.Native.Nat.{ℕ, zero, suc, _+_, _-_, _*_, _≤_, _<_}
 use mathlib.Core.Path.{_≡_}
 use mathlib.Core.Bool.{Bool, true, false, not, _&&_, cond}
-use mathlib.Core.List.{List, [], _∷_, _++_, map}
+use mathlib.Core.Logic.{_↔_}
+use mathlib.Core.List.{List, [], _∷_, _++_, map, List·Memᴰ}
 use lib.ListN.{length}
 use lib.Ieee.{Float, lt, le}
-use Rattle.float.specs.Ops.{_⊕_, _⊖_, _⊗_, _⊘_, of, one, two}
+use Rattle.float.specs.Ops.{_⊕_, _⊖_, _⊗_, _⊘_, of}
 use Rattle.lists.specs.Those.{those}
 use Rattle.constants.specs.Constants.{RISE_S}
+use Rattle.row.specs.Window.{centreOf}
 use Rattle.elements.specs.declared.element.KeyedElement.{KeyedElement}
 use Rattle.elements.specs.declared.keying.Found.{Found}
 use Rattle.elements.specs.declared.keying.Rising.{Rising}
@@ -41,6 +43,11 @@ pub record IsKeyDown (row : ℕ → Float) (thr : Float) (last : ℕ) (k : KeyDo
   pub within : k .down ≤ last
   pub next : (i : ℕ) → k .up < i → i < k .down → downward row thr i ≡ false
 
+-- A list of them is in order when each ends before the next ones begin. Then ups rise, and none is there twice.
+abbrev pub InOrder : List KeyDown → Type 0
+InOrder [] = Unit {0}
+InOrder (k ∷ ks) = ((d : KeyDown) → List·Memᴰ d ks → k .down < d .up) × InOrder ks
+
 -- Among the positions 1 to j: the upward crossing that no downward one has followed, if there is one (the Rust's
 -- `rising`).
 unfoldable pub pending : (ℕ → Float) → Float → ℕ → Rising
@@ -66,13 +73,10 @@ keyDowns row thr (suc j) =
 
 -- ---- their times: "Times follow `find_elements`"
 
--- amplitude i covers the window = 8 × step samples from i × step on: their centre
-abbrev pub centre : ℕ → ℕ → Float
-centre step i = of (i * step) ⊕ (of (8 * step) ⊖ one) ⊘ two
-
--- the time of a crossing at i, on the line from amplitude i − 1 to amplitude i
+-- The time of a crossing at i, on the line from amplitude i − 1 to amplitude i. Amplitude i stands at the centre of
+-- the window = 8 × step samples from i × step on.
 unfoldable pub crossedAt : (ℕ → Float) → Float → ℕ → ℕ → Float
-crossedAt row thr step i = centre step (i - 1) ⊕ (thr ⊖ row (i - 1)) ⊘ (row i ⊖ row (i - 1)) ⊗ of step
+crossedAt row thr step i = centreOf ((i - 1) * step) (8 * step) ⊕ (thr ⊖ row (i - 1)) ⊘ (row i ⊖ row (i - 1)) ⊗ of step
 
 -- An element keeps start, end and, added, up and down.
 unfoldable pub elementOf : (ℕ → Float) → Float → ℕ → KeyDown → KeyedElement
@@ -85,6 +89,14 @@ isLong fs e = le (RISE_S ⊗ fs) (e .end ⊖ e .start)
 
 unfoldable pub long : (ℕ → Float) → Float → ℕ → Float → KeyDown → Bool
 long row thr step fs k = isLong fs (elementOf row thr step k)
+
+-- A list of elements has the long key-downs of a row: each once, in order, and nothing else. `found-exactly` of the
+-- proofs says so of the elements found in a recording.
+pub record LongKeyDowns (row : ℕ → Float) (thr : Float) (last step : ℕ) (fs : Float) (es : List KeyedElement) : Type 0 where
+  pub long-ones : List KeyDown
+  pub are : es ≡ map (elementOf row thr step) long-ones
+  pub in-order : InOrder long-ones
+  pub exactly : (k : KeyDown) → List·Memᴰ k long-ones ↔ (IsKeyDown row thr last k × (long row thr step fs k ≡ true))
 
 -- ---- the elements listed, and the counts
 

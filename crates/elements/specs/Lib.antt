@@ -1,5 +1,5 @@
--- What the contracts of `elements` cite, in 01's order: element.rt, keying.rt, find.rt, and the edge table's recordings.
--- Inner is not needed to read a public promise.
+-- What the contracts of `elements` cite, each file named as its source, and the edge table's recordings. Inner is not
+-- needed to read a public promise.
 pub mod Element
 pub mod Keying
 pub mod Find

@@ -3,6 +3,7 @@ use crate::element::KeyedElement;
 use crate::element::put_element;
 use constants::RISE_S;
 use float::whole::exact;
+use row::centre;
 ghost use mathlib.Core.Path.{_≡_};
 ghost use Prim.Native.Nat.{_+_, _-_, _*_, _/_, _^_, _≤_, _<_};
 ghost use mathlib.Core.List.{[], _∷_};
@@ -84,8 +85,7 @@ fn crossing(row: &[f64], thr: f64, step: usize, i: usize) -> f64
 {
     let a0 = row[i - 1];
     let a1 = row[i];
-    let centre = exact((i - 1) * step) + (exact(8 * step) - 1.0) / 2.0;
-    centre + (thr - a0) / (a1 - a0) * exact(step)
+    centre((i - 1) * step, 8 * step) + (thr - a0) / (a1 - a0) * exact(step)
 }
 
 // The element that the key-down from up to down is.

@@ -1,11 +1,10 @@
 -- Sums over the fits of a list, and the mean slope.
-use Prim.Native.Nat.{ℕ, suc, _+_, _≤_}
+use Prim.Native.Nat.{ℕ, _+_, _≤_}
 use native.Mathlib.Numerals.{add-one}
 use native.Mathlib.Omega.{arith}
 use mathlib.Core.Path.{_≡_, refl}
 use mathlib.Core.Bool.{true, false}
-use mathlib.Core.List.{List, [], _∷_, _++_}
-use borrow.Author.Needs.{needs}
+use mathlib.Core.List.{List}
 use lib.Ieee.{Float, lt}
 use Rattle.float.specs.Ops.{_⊕_, _⊗_, _⊘_, bits, zero}
 use Rattle.trig.proofs.Bits.{tau-bits}

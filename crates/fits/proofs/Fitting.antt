@@ -1,8 +1,8 @@
 -- The ways out of the fit of one element.
-use Prim.Native.Nat.{ℕ, _+_, _-_, _*_, _/_, _≤_, _<_}
+use Prim.Native.Nat.{ℕ, _+_, _-_, _*_, _/_, _^_, _≤_, _<_}
 use native.Mathlib.Nat.{le-trans, sub-le, mul-le-mul}
 use native.Mathlib.Omega.{arith}
-use mathlib.Core.Path.{_≡_, refl, ap, _∙_}
+use mathlib.Core.Path.{_≡_}
 use mathlib.Core.Bool.{true, false}
 use mathlib.Core.List.{List}
 use lib.ListN.{length}
@@ -18,7 +18,7 @@ use Rattle.elements.specs.declared.element.KeyedElement.{KeyedElement}
 use Rattle.fits.specs.declared.interior.Interior.the-variants.{Inside, Nothing}
 use Rattle.fits.specs.declared.fit.Fit.{Fit}
 use Rattle.fits.specs.declared.fit.Fit.the-variants.{Fitted, Skipped}
-use Rattle.fits.specs.Interior.{interiorOf, blockOf}
+use Rattle.fits.specs.Interior.{interiorOf, slopeBlock}
 use Rattle.fits.specs.Slope.{slopeOf}
 use Rattle.fits.specs.Gain.{refSample, gainSum, hannSum}
 use Rattle.fits.specs.Fit.{fitInside, fitWithin, fitOf}
@@ -43,23 +43,22 @@ module _ (iq : List Float) (fs cyc : Float) (e : KeyedElement) where
   unfolding fitOf fitWithin
   fit-outside h = rw (← h)
 
-  pub fit-found : (i0 i1 block : ℕ) (r : Fit) → Inside i0 i1 ≡ interiorOf (samples iq) fs (e .start) (e .end) → block ≡ blockOf fs → r ≡ fitInside iq cyc block e i0 i1 → r ≡ fitOf iq fs cyc e
+  pub fit-found : (i0 i1 block : ℕ) (r : Fit) → Inside i0 i1 ≡ interiorOf (samples iq) fs (e .start) (e .end) → block ≡ slopeBlock fs → r ≡ fitInside iq cyc block e i0 i1 → r ≡ fitOf iq fs cyc e
   unfolding fitOf fitWithin
   fit-found i0 i1 block r h b p = rw (← h, ← b, p)
 
 -- What the fit over an interior asks: it is not empty, it lies within the recording, and its points have room, since
--- a block is no shorter than the
--- step, and so they are no more than the blocks of the edge finder.
+-- a block is no shorter than the step, and so they are no more than the blocks of the edge finder.
 pub interior-room : (iq : List Float) (fs : Float) (e : KeyedElement) (i0 i1 block room : ℕ) → Iq iq → Rate fs → Timed e
-    → Inside i0 i1 ≡ interiorOf (samples iq) fs (e .start) (e .end) → block ≡ blockOf fs → 4 * stepBlocks iq fs ≤ room
+    → Inside i0 i1 ≡ interiorOf (samples iq) fs (e .start) (e .end) → block ≡ slopeBlock fs → 4 * stepBlocks iq fs ≤ room
     → (i0 < i1) × (2 * i1 ≤ length iq) × (1 ≤ block) × (2 * ((i1 - i0) / block) ≤ room)
 interior-room iq fs e i0 i1 block room lent rate timed h b r =
     let w = interior-within fs rate (samples iq) (half (length iq) (lent .short)) (e .start) (e .end) (timed .first) (timed .last) i0 i1 h in
     let low = w .0 in
     let high = w .1 in
     let points =
-    div-mono (i1 - i0) (blockOf fs) (samples iq) (stepOf fs) (block-some fs) (step-low fs) (mul-le-mul (le-trans (sub-le i1 i0) high) (step-le-block fs rate)) in
+    div-mono (i1 - i0) (slopeBlock fs) (samples iq) (stepOf fs) (block-some fs) (step-low fs) (mul-le-mul (le-trans (sub-le i1 i0) high) (step-le-block fs rate)) in
     (omega arith, omega arith, rw b (block-some fs), rw b (omega arith))
   where
-    half : (n : ℕ) → n ≤ 2097152 → n / 2 ≤ 1048576
+    half : (n : ℕ) → n ≤ 2 ^ 21 → n / 2 ≤ 2 ^ 20
     half n h = omega arith

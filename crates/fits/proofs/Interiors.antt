@@ -18,7 +18,6 @@ use Rattle.float.proofs.Intervals.{interval-is}
 use Rattle.row.specs.Window.{Rate}
 use Rattle.constants.specs.Constants.{RISE_S, MIN_INTERIOR_S}
 use Rattle.constants.proofs.Bits.{rise-bits}
-use Rattle.fits.specs.declared.interior.Interior.{Interior}
 use Rattle.fits.specs.declared.interior.Interior.the-variants.{Inside, Nothing}
 use Rattle.fits.specs.Interior.{loOf, hiOf, minLen, unfit, interiorOf}
 use Rattle.float.specs.Size.{sized}
@@ -90,7 +89,7 @@ least-ends : (minLen (of 2000) ≡ 20) × (minLen (of 192000) ≡ 1920)
 unfolding minLen MIN_INTERIOR_S fraction round ofInt mul ceilOf wholeBy toUnsigned
 least-ends = (refl, refl)
 
-enough : (n : ℕ) → n ≤ 1048576 → n < 2 ^ 53
+enough : (n : ℕ) → n ≤ 2 ^ 20 → n < 2 ^ 53
 enough n h = omega arith
 
 further : (a b m : ℕ) → 20 ≤ m → a + m ≤ b → a + 20 ≤ b
@@ -117,7 +116,7 @@ module _ (fs : Float) (r : Rate fs) where
   least-high = rw (least-ends .1) at (least-mono fs (of 192000) (rate-pos fs r) (ends-pos .1) (r .high))
 
   -- the tests have failed
-  module _ (n : ℕ) (few : n ≤ 1048576) (start end : Float) (s : T (sized start)) (t : T (sized end)) where
+  module _ (n : ℕ) (few : n ≤ 2 ^ 20) (start end : Float) (s : T (sized start)) (t : T (sized end)) where
     fit-bounds : unfit n fs start end ≡ false → (toUnsigned 64 (loOf fs start) + 20 ≤ toUnsigned 64 (hiOf fs end)) × (toUnsigned 64 (hiOf fs end) ≤ n)
     unfolding unfit loOf hiOf sized
     fit-bounds e =

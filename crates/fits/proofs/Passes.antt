@@ -1,9 +1,8 @@
 -- One find and fit: the elements found are listed, counted and timed as the fits ask.
-use Prim.Native.Nat.{ℕ, zero, suc, _*_, _/_, _^_, _≤_, _<_}
-use native.Mathlib.Nat.{not-suc-le-zero, le-of-suc-le-suc, le-trans}
+use Prim.Native.Nat.{ℕ, _/_, _^_, _≤_, _<_}
 use native.Mathlib.Omega.{arith}
-use mathlib.Core.Path.{_≡_, refl, sym, ap, _∙_}
-use mathlib.Core.List.{List, [], _∷_, List·Memᴰ, List·Memᴰ·head, List·Memᴰ·tail}
+use mathlib.Core.Path.{_≡_, sym, ap, _∙_}
+use mathlib.Core.List.{List}
 use lib.Dec.{T, lit≤}
 use lib.ListN.{length, getD}
 use lib.Ieee.{Float, nan, inf, fin}
@@ -18,23 +17,18 @@ use Rattle.elements.specs.declared.keying.Found.{Found}
 use Rattle.elements.specs.Element.{ELEMENT, elementAt, elementsIn, handed, handedElements}
 use Rattle.elements.specs.Find.{foundOf, elementsFound}
 use Rattle.lists.proofs.Firsts.{getD-firsts}
+use Rattle.lists.proofs.Members.{member-at}
 use Rattle.elements.proofs.Records.{elements-read}
-use Rattle.elements.proofs.Bounds.{Plain, found-bounded}
+use Rattle.elements.proofs.Bounds.{found-bounded}
 use Rattle.elements.proofs.Recording.{listed-counted, all-counted, enough-places}
 use Rattle.float.specs.Size.{sized}
 use Rattle.fits.specs.List.{FIT, fitsIn, handedFits, fitsOf}
-use Rattle.fits.specs.Inner.{Timed, AllTimed}
+use Rattle.fits.specs.Inner.{AllTimed}
 use Rattle.fits.specs.declared.estimate.Estimate.{Estimate}
 use Rattle.fits.specs.Carrier.{meanSlope}
 use Rattle.fits.specs.Estimate.{fitsFound, carrierStep, refined, strongElements, strongFits, strongEstimate}
 use Rattle.fits.proofs.Fitted.{fitted-few}
 use Rattle.fits.proofs.Records.{fits-read}
-
--- what stands in a list is one of it
-at-mem : {A : Type 0} (l : List A) (k : ℕ) (d : A) → k < length l → List·Memᴰ (getD l k d) l
-at-mem [] k d h = absurd (not-suc-le-zero h)
-at-mem (x ∷ l) zero d h = List·Memᴰ·head refl
-at-mem (x ∷ l) (suc k) d h = List·Memᴰ·tail (at-mem l k d (le-of-suc-le-suc h))
 
 bounded-sized : (x : Float) → Bounded 0 (2 ^ 27) x → T (sized x)
 unfolding sized
@@ -67,7 +61,7 @@ module _ (iq : List Float) (fs carrier : Float) (l : List Float) (found : Found)
             λ k h.
             let d = elementAt cur 0 in
             let below : k < length (elementsFound iq fs carrier) = (rw (e, listed-counted iq fs carrier) at h) in
-            let b = found-bounded iq fs carrier s lent rate _ (at-mem (elementsFound iq fs carrier) k d below) in
+            let b = found-bounded iq fs carrier s lent rate _ (member-at (elementsFound iq fs carrier) k d below) in
             let here : elementAt cur k ≡ getD (elementsFound iq fs carrier) k d =
             sym (getD-firsts (elementAt cur) (found .listed) k d h) ∙ ap (λ (es : List KeyedElement). getD es k d) listed-are in
             rw here (record { first = bounded-sized _ (b .start-bounded); last = bounded-sized _ (b .end-bounded) });

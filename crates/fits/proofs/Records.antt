@@ -2,14 +2,14 @@
 -- Records) for fits; `fits-handed` says what a list of fits hands out.
 use Prim.Native.Nat.{ℕ, _+_, _*_, _≤_, _<_}
 use native.Mathlib.Omega.{arith}
-use mathlib.Core.Path.{_≡_, refl, ap, _∙_}
+use mathlib.Core.Path.{_≡_, ap, _∙_}
 use mathlib.Core.List.{List}
 use lib.ListN.{length, getD, set, drop, length-set}
 use lib.Seq.{getD-set-same, getD-set-other, drop-set-lt}
 use lib.Ieee.{Float, nan}
 use Rattle.elements.specs.Element.{ELEMENT, elementFrom, Handed, handed}
 use Rattle.elements.specs.Inner.{putElementFrom}
-use Rattle.elements.proofs.Records.{Kind, stored-handed, handed-again, element-put, element-before, element-after, before-element}
+use Rattle.elements.proofs.Records.{Kind, stored-handed, handed-again, element-put, element-after, before-element}
 use Rattle.fits.specs.declared.fit.ElementFit.{ElementFit}
 use Rattle.fits.specs.List.{FIT, fitFrom, fitsIn, handedFits}
 use Rattle.fits.specs.Inner.{putFitFrom, storedFits}

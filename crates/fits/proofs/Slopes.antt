@@ -2,22 +2,20 @@
 use Prim.Native.Nat.{ℕ, _*_, _/_, _≤_, _<_}
 use native.Mathlib.Nat.{div-mul-le-self, mul-le-mul-right}
 use native.Mathlib.Omega.{arith}
-use mathlib.Core.Path.{_≡_, refl, sym, ap, _∙_}
+use mathlib.Core.Path.{_≡_, ap, _∙_}
 use mathlib.Core.List.{List}
-use mathlib.Core.Bool.{true, false}
 use borrow.Author.Tests.{lt-leb}
-use lib.Dec.{leb}
 use lib.ListN.{length}
 use lib.Ieee.{Float}
-use Rattle.float.specs.Ops.{_⊖_, _⊗_, _⊘_, zero, minus-zero}
+use Rattle.float.specs.Ops.{_⊘_, zero, minus-zero}
 use Rattle.complex.specs.declared.value.Complex.{Complex}
 use Rattle.complex.specs.Value.{cNorm}
 use Rattle.complex.specs.Rows.{zAt, zFill}
 use Rattle.complex.proofs.RowLaws.{zAt-zFill}
 use Rattle.lists.specs.Sums.{total}
 use Rattle.lists.proofs.Sums.{fSum-cong}
-use Rattle.fits.specs.Line.{timeOf, weighted, moment, lineSlope}
-use Rattle.fits.specs.Slope.{slopeMean, phaseOf, slopeOf}
+use Rattle.fits.specs.Line.{weighted, moment, lineSlope}
+use Rattle.fits.specs.Slope.{phaseOf, slopeOf}
 use Rattle.fits.specs.Inner.{pointOf, phaseIn, weightIn}
 
 -- points alike have the same slope

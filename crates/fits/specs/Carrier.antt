@@ -1,8 +1,8 @@
 -- The mean slope of fits in Hz (01, part 4: `mean_slope_hz`). Definitions only.
 use mathlib.Core.Bool.{cond}
-use mathlib.Core.List.{List, [], _∷_}
+use mathlib.Core.List.{List}
 use lib.Ieee.{Float, lt}
-use Rattle.float.specs.Ops.{_⊕_, _⊖_, _⊗_, _⊘_, zero, two}
+use Rattle.float.specs.Ops.{_⊖_, _⊗_, _⊘_, zero, two}
 use Rattle.float.specs.Compare.{maxOf}
 use Rattle.trig.specs.Constants.{TAU}
 use Rattle.complex.specs.Value.{cNorm}

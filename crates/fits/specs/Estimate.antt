@@ -1,6 +1,5 @@
 -- The estimate of a strong sender (01, part 4: `estimate_strong`): a find and fit at the hint, the carrier refined by
--- the mean slope, and a second find and fit
--- at the refined carrier, over the same recording. Definitions only.
+-- the mean slope, and a second find and fit at the refined carrier, over the same recording. Definitions only.
 use mathlib.Core.List.{List}
 use lib.ListN.{length}
 use lib.Ieee.{Float}

@@ -9,10 +9,9 @@ use Rattle.row.specs.Window.{samples}
 use Rattle.elements.specs.declared.element.KeyedElement.{KeyedElement}
 use Rattle.fits.specs.declared.interior.Interior.{Interior}
 use Rattle.fits.specs.declared.interior.Interior.the-variants.{Inside, Nothing}
-use Rattle.fits.specs.declared.fit.ElementFit.{ElementFit}
 use Rattle.fits.specs.declared.fit.Fit.{Fit}
 use Rattle.fits.specs.declared.fit.Fit.the-variants.{Fitted, Skipped}
-use Rattle.fits.specs.Interior.{interiorOf, blockOf}
+use Rattle.fits.specs.Interior.{interiorOf, slopeBlock}
 use Rattle.fits.specs.Slope.{slopeOf}
 use Rattle.fits.specs.Gain.{refSample, gainSum, hannSum}
 
@@ -33,4 +32,4 @@ fitWithin iq cyc block e Nothing = Skipped
 
 -- the fit of an element in a recording at a rate, derotated by cyc cycles a sample
 unfoldable pub fitOf : List Float → Float → Float → KeyedElement → Fit
-fitOf iq fs cyc e = fitWithin iq cyc (blockOf fs) e (interiorOf (samples iq) fs (e .start) (e .end))
+fitOf iq fs cyc e = fitWithin iq cyc (slopeBlock fs) e (interiorOf (samples iq) fs (e .start) (e .end))

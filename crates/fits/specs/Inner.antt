@@ -1,5 +1,5 @@
--- Not needed to read a public promise: what the functions behind `fit_elements` and `estimate_strong` require and ensure.
--- Definitions only.
+-- Not needed to read a public promise: what the functions behind `fit_elements` and `estimate_strong` require and
+-- ensure. Definitions only.
 use Prim.Native.Nat.{ℕ, _+_, _*_, _<_}
 use mathlib.Core.List.{List}
 use lib.Dec.{T}

@@ -1,11 +1,10 @@
 -- The interior of an element in whole samples, and the block of the slope fit (01, part 4: `fit_elements`).
 -- Definitions only.
 use Prim.Native.Nat.{ℕ}
-use mathlib.Core.Bool.{Bool, false, _||_, cond}
-use lib.IntN.{pos}
-use lib.Ieee.{Float, fin, lt, le, toUnsigned}
+use mathlib.Core.Bool.{Bool, _||_, cond}
+use lib.Ieee.{Float, lt, toUnsigned}
 use Rattle.float.specs.Ops.{_⊕_, _⊖_, _⊗_, of, zero, one}
-use Rattle.float.specs.Compare.{absOf, maxOf}
+use Rattle.float.specs.Compare.{maxOf}
 use Rattle.float.specs.Whole.{floorOf, ceilOf, roundOf}
 use Rattle.constants.specs.Constants.{RISE_S, MIN_INTERIOR_S, SLOPE_BLOCK_S}
 use Rattle.fits.specs.declared.interior.Interior.{Interior}
@@ -34,5 +33,5 @@ unfoldable pub interiorOf : ℕ → Float → Float → Float → Interior
 interiorOf n fs start end = cond (unfit n fs start end) Nothing (Inside (toUnsigned 64 (loOf fs start)) (toUnsigned 64 (hiOf fs end)))
 
 -- `block`: the samples of a block of the slope fit
-unfoldable pub blockOf : Float → ℕ
-blockOf fs = toUnsigned 64 (maxOf (roundOf (SLOPE_BLOCK_S ⊗ fs)) one)
+unfoldable pub slopeBlock : Float → ℕ
+slopeBlock fs = toUnsigned 64 (maxOf (roundOf (SLOPE_BLOCK_S ⊗ fs)) one)

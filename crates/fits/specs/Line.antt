@@ -4,12 +4,13 @@ use Prim.Native.Nat.{ℕ, _+_, _*_}
 use mathlib.Core.Bool.{cond}
 use lib.Dec.{leb}
 use lib.Ieee.{Float, lt}
-use Rattle.float.specs.Ops.{_⊕_, _⊖_, _⊗_, _⊘_, of, zero, one, two}
+use Rattle.float.specs.Ops.{_⊖_, _⊗_, _⊘_, zero}
 use Rattle.lists.specs.Sums.{total}
+use Rattle.row.specs.Window.{centreOf}
 
--- the time of block b of an interior that begins at i0: the middle of its samples
+-- `t`: the time of block b of an interior that begins at i0, the centre of its samples
 abbrev pub timeOf : ℕ → ℕ → ℕ → Float
-timeOf i0 block b = of (i0 + b * block) ⊕ (of block ⊖ one) ⊘ two
+timeOf i0 block b = centreOf (i0 + b * block) block
 
 -- Σ w x, over n points
 abbrev pub weighted : (ℕ → Float) → (ℕ → Float) → ℕ → Float

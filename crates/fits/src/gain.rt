@@ -2,7 +2,7 @@
 use complex::Complex;
 use trig::TAU;
 ghost use mathlib.Core.Path.{_≡_};
-ghost use Prim.Native.Nat.{_+_, _*_, _≤_, _<_};
+ghost use Prim.Native.Nat.{_+_, _*_, _^_, _≤_, _<_};
 ghost use lib.ListN.{length};
 ghost use Rattle.trig.specs.Sine.{sineTable};
 ghost use Rattle.row.specs.Samples.{Iq};
@@ -12,7 +12,7 @@ ghost use Rattle.fits.specs.Inner.{leveledBy};
 // Rust: `w` in `fit_elements`.
 fn hann_weight(len: usize, j: usize, sine: &[u64; 1025]) -> f64
     requires { ⌜ now sine ≡ sineTable ⌝ }
-    requires { ⌜ (len ≤ 1048576) × (j ≤ 1048576) ⌝ }
+    requires { ⌜ (len ≤ 2 ^ 20) × (j ≤ 2 ^ 20) ⌝ }
     ensures { λ r. ⌜ r ≡ hann len j ⌝ }
 {
     0.5 - 0.5 * trig::cos(TAU * (float::exact(j) + 0.5) / float::exact(len), sine)
@@ -20,7 +20,7 @@ fn hann_weight(len: usize, j: usize, sine: &[u64; 1025]) -> f64
 
 // Rust: `tilt` in `fit_elements`.
 fn tilt(slope: f64, reference: f64, k: usize) -> f64
-    requires { ⌜ k ≤ 1048576 ⌝ }
+    requires { ⌜ k ≤ 2 ^ 20 ⌝ }
     ensures { λ r. ⌜ r ≡ tiltOf slope reference k ⌝ }
 {
     float::rem_euclid(-slope * (float::exact(k) - reference), TAU)

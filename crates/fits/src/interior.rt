@@ -3,9 +3,9 @@ use constants::MIN_INTERIOR_S;
 use constants::RISE_S;
 use constants::SLOPE_BLOCK_S;
 ghost use mathlib.Core.Path.{_≡_};
-ghost use Prim.Native.Nat.{_≤_};
+ghost use Prim.Native.Nat.{_^_, _≤_};
 ghost use Rattle.float.specs.Ops.{of};
-ghost use Rattle.fits.specs.Interior.{interiorOf, blockOf, minLen};
+ghost use Rattle.fits.specs.Interior.{interiorOf, slopeBlock, minLen};
 
 // From the first sample up to, not including, `past`; or nothing, where the element is too short or leaves the
 // recording.
@@ -18,19 +18,19 @@ pub enum Interior {
 fn min_len(fs: f64) -> f64
     ensures { λ r. ⌜ r ≡ of (minLen fs) ⌝ }
 {
-    std::num::nearest_u64_to_f64(float::to_whole(float::ceil(MIN_INTERIOR_S * fs)) as u64)
+    float::from_whole(float::to_whole(float::ceil(MIN_INTERIOR_S * fs)))
 }
 
 // Rust: `block` in `fit_elements`.
 pub fn slope_block(fs: f64) -> usize
-    ensures { λ r. ⌜ r ≡ blockOf fs ⌝ }
+    ensures { λ r. ⌜ r ≡ slopeBlock fs ⌝ }
 {
     float::to_whole(float::max(float::round(SLOPE_BLOCK_S * fs), 1.0))
 }
 
 // Rust: `lo`, `hi`, `i0` and `i1` in `fit_elements`. n is the number of samples.
 pub fn interior_of(n: usize, fs: f64, start: f64, end: f64) -> Interior
-    requires { ⌜ n ≤ 1048576 ⌝ }
+    requires { ⌜ n ≤ 2 ^ 20 ⌝ }
     ensures { λ r. ⌜ r ≡ interiorOf n fs start end ⌝ }
 {
     let rise = RISE_S * fs;

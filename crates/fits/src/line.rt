@@ -2,19 +2,19 @@
 // Point b is the pair (phase, weight) at place b of the work slice, where a row of complex numbers has its number b;
 // its time is computed.
 ghost use mathlib.Core.Path.{_≡_};
-ghost use Prim.Native.Nat.{_+_, _*_, _≤_, _<_};
+ghost use Prim.Native.Nat.{_+_, _*_, _^_, _≤_};
 ghost use lib.ListN.{length};
 ghost use Rattle.lists.specs.Sums.{total};
 ghost use Rattle.fits.specs.Line.{timeOf, weighted, moment, lineSlope};
 ghost use Rattle.fits.specs.Inner.{phaseIn, weightIn};
 
-// The middle of block b of an interior that begins at i0.
+// Rust: `t` in `fit_elements`, of block b of an interior that begins at i0.
 pub fn time_of(i0: usize, block: usize, b: usize) -> f64
-    requires { ⌜ i0 + b * block ≤ 1048576 ⌝ }
-    requires { ⌜ block ≤ 1048576 ⌝ }
+    requires { ⌜ i0 + b * block ≤ 2 ^ 20 ⌝ }
+    requires { ⌜ block ≤ 2 ^ 20 ⌝ }
     ensures { λ r. ⌜ r ≡ timeOf i0 block b ⌝ }
 {
-    float::whole::exact(i0 + b * block) + (float::whole::exact(block) - 1.0) / 2.0
+    row::centre(i0 + b * block, block)
 }
 
 // The sums of the weights, of the weighted times and of the weighted phases.
@@ -25,8 +25,8 @@ pub struct Sums {
 }
 
 fn sum_points(work: &[f64], i0: usize, block: usize, n: usize) -> Sums
-    requires { ⌜ i0 + n * block ≤ 1048576 ⌝ }
-    requires { ⌜ block ≤ 1048576 ⌝ }
+    requires { ⌜ i0 + n * block ≤ 2 ^ 20 ⌝ }
+    requires { ⌜ block ≤ 2 ^ 20 ⌝ }
     requires { ⌜ 2 * n ≤ length (now work) ⌝ }
     ensures { λ r. ⌜ r .weight ≡ total (weightIn (now (work .entry))) n ⌝ }
     ensures { λ r. ⌜ r .time ≡ weighted (weightIn (now (work .entry))) (timeOf i0 block) n ⌝ }
@@ -55,8 +55,8 @@ pub struct Moments {
 }
 
 fn sum_moments(work: &[f64], i0: usize, block: usize, n: usize, tm: f64, pm: f64) -> Moments
-    requires { ⌜ i0 + n * block ≤ 1048576 ⌝ }
-    requires { ⌜ block ≤ 1048576 ⌝ }
+    requires { ⌜ i0 + n * block ≤ 2 ^ 20 ⌝ }
+    requires { ⌜ block ≤ 2 ^ 20 ⌝ }
     requires { ⌜ 2 * n ≤ length (now work) ⌝ }
     ensures { λ r. ⌜ r .num ≡ moment (weightIn (now (work .entry))) (timeOf i0 block) tm (phaseIn (now (work .entry))) pm n ⌝ }
     ensures { λ r. ⌜ r .den ≡ moment (weightIn (now (work .entry))) (timeOf i0 block) tm (timeOf i0 block) tm n ⌝ }
@@ -75,8 +75,8 @@ fn sum_moments(work: &[f64], i0: usize, block: usize, n: usize, tm: f64, pm: f64
 
 // Rust: the slope in `fit_elements`. With fewer than two points its callers do not come here: the slope is 0.
 pub fn line_slope(work: &[f64], i0: usize, block: usize, n: usize) -> f64
-    requires { ⌜ i0 + n * block ≤ 1048576 ⌝ }
-    requires { ⌜ block ≤ 1048576 ⌝ }
+    requires { ⌜ i0 + n * block ≤ 2 ^ 20 ⌝ }
+    requires { ⌜ block ≤ 2 ^ 20 ⌝ }
     requires { ⌜ 2 * n ≤ length (now work) ⌝ }
     requires { ⌜ 2 ≤ n ⌝ }
     ensures { λ r. ⌜ r ≡ lineSlope (weightIn (now (work .entry))) (timeOf i0 block) (phaseIn (now (work .entry))) n ⌝ }

@@ -23,10 +23,10 @@ use Rattle.float.specs.Root.{sqrtOf}
 use Rattle.float.proofs.Exactly.{neg-round, round-value, fits-says, exponent}
 use Rattle.float.proofs.Compared.{lt→cross, le→value}
 use Rattle.float.proofs.Sums.{sub-over}
-use Rattle.float.proofs.Meaning.{sqrt-nearest}
+use Rattle.float.proofs.Meaning.{root-of-units}
 use Rattle.float.proofs.Signs.{Signed, round-signed, number-signed, add-signed, square-signed}
 use Rattle.float.proofs.Monotone.{signed-le}
-use Rattle.float.proofs.Bounds.{Bounded, div-bounded, bounded-finite, bounded-mul, bounded-add, finite-not-nan}
+use Rattle.float.proofs.Bounds.{Bounded, div-bounded, bounded-finite, bounded-mul, bounded-add, finite-number}
 
 -- finite, with the sign plus
 abbrev pub unsigned : Float → Bool
@@ -47,7 +47,7 @@ pub amount-finite : {x : Float} → Amount x → T (finite x)
 amount-finite {x} h = unsigned-finite x (h .plus)
 
 pub amount-not-nan : {x : Float} → Amount x → T (not (isNan x))
-amount-not-nan {x} h = finite-not-nan x (amount-finite h)
+amount-not-nan {x} h = finite-number x (amount-finite h)
 
 unsigned-signed : (x : Float) → T (unsigned x) → Signed false x
 unsigned-signed nan h = h
@@ -99,7 +99,7 @@ amount-root (fin true m e) h = absurd (h .plus)
 amount-root (fin false zero e) h = unfold sqrtOf in h
 amount-root (fin false (suc m) e) h =
     let j = exponent binary64 (suc m) e (fits-says binary64 false m e (h .held) .2) in
-    let r = sqrt-nearest binary64 (fin false (suc m) e) (suc m * 2 ^ (j .0)) (h .held) (mul-pos (zero-lt-suc m) (pow-pos (j .0))) (refl, j .1) in
+    let r = root-of-units binary64 (fin false (suc m) e) (suc m * 2 ^ (j .0)) (h .held) (mul-pos (zero-lt-suc m) (pow-pos (j .0))) (refl, j .1) in
     record { plus = value-unsigned (sqrtOf binary64 (fin false (suc m) e)) (r .r) (2 ^ 1074) (r .value); held = r .held }
 
 -- ---- what lies under an amount
@@ -145,7 +145,7 @@ amount-half (fin false m e) h =
 -- ---- a sum of squares
 
 finite-signed : (x : Float) → T (finite x) → (s : Bool) × Signed s x
-finite-signed x h = number-signed x (finite-not-nan x h)
+finite-signed x h = number-signed x (finite-number x h)
 
 pub amount-squares : {k a : ℕ} {x y : Float} → Bounded k a x → Bounded k a y → a * a + a * a ≤ 2 ^ 53 → k + k ≤ 970 → Amount (x ⊗ x ⊕ y ⊗ y)
 amount-squares {k} {a} {x} {y} p q h g =

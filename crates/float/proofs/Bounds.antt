@@ -16,7 +16,7 @@ use lib.Ieee.Exact.{HasValue, round-exact}
 use lib.Ieee.Order.{round-mono}
 use lib.Ieee.Scale.{finite}
 use lib.Ieee.Positive.{num, den, den-pos, first-pos, value→cross}
-use Rattle.float.specs.Ops.{_⊕_, _⊖_, _⊗_, _⊘_, of, fraction, zero as nought, one, half, two, eight}
+use Rattle.float.specs.Ops.{_⊕_, _⊖_, _⊗_, _⊘_, of, zero as nought, one, two, eight}
 use Rattle.float.specs.Compare.{absOf}
 use Rattle.float.specs.Whole.{halfUp, wholeBy, roundOf}
 use Rattle.float.proofs.Exactly.{neg-round, fits-says}
@@ -97,14 +97,11 @@ under-finite b (fin s m e) h = tt
 pub bounded-finite : {k a : ℕ} {x : Float} → Bounded k a x → T (finite x)
 bounded-finite {k} {a} {x} h = under-finite (a * 2 ^ k) x (h .bound)
 
-pub finite-not-nan : (x : Float) → T (finite x) → T (not (isNan x))
+pub finite-number : (x : Float) → T (finite x) → T (not (isNan x))
 unfolding isNan
-finite-not-nan nan h = h
-finite-not-nan (inf s) h = tt
-finite-not-nan (fin s m e) h = tt
-
-pub bounded-not-nan : {k a : ℕ} {x : Float} → Bounded k a x → T (not (isNan x))
-bounded-not-nan {k} {a} {x} h = finite-not-nan x (bounded-finite h)
+finite-number nan h = h
+finite-number (inf s) h = tt
+finite-number (fin s m e) h = tt
 
 -- ---- a larger bound, and the same bound written with more of it in the power
 
@@ -124,15 +121,6 @@ bounded-shift j {k} {a} {x} h =
 
 pub bounded-neg : {k a : ℕ} {x : Float} → Bounded k a x → Bounded k a (neg x)
 bounded-neg {k} {a} {x} h = record { bound = under-neg (a * 2 ^ k) x (h .bound) }
-
-under-abs : (b : ℕ) (x : Float) → Under b x → Under b (absOf x)
-unfolding absOf
-under-abs b nan h = h
-under-abs b (inf s) h = h
-under-abs b (fin s m e) h = h
-
-pub bounded-abs : {k a : ℕ} {x : Float} → Bounded k a x → Bounded k a (absOf x)
-bounded-abs {k} {a} {x} h = record { bound = under-abs (a * 2 ^ k) x (h .bound) }
 
 pub bounded-cond : {k a : ℕ} {x y : Float} (t : Bool) → Bounded k a x → Bounded k a y → Bounded k a (cond t x y)
 bounded-cond true h g = h
@@ -242,10 +230,6 @@ pub bounded-whole : (n : ℕ) → n ≤ 2 ^ 53 → Bounded 0 n (of n)
 unfolding ofInt
 bounded-whole n h = round-bounded 0 n false n 1 (lit< tt) h (lit≤ tt) (le-of-eq (sym (mul-one (n * 1) ∙ mul-one n)))
 
-pub bounded-fraction : (b a c : ℕ) → 0 < c → b ≤ 2 ^ 53 → a ≤ b * c → Bounded 0 b (fraction a c)
-unfolding fraction
-bounded-fraction b a c C h l = round-bounded 0 b false a c C h (lit≤ tt) (le-trans l (le-of-eq (ap (λ (x : ℕ). x * c) (sym (mul-one b)))))
-
 -- a finite f32 is below 2 ^ 128
 single-under : (x : Float) → T (fits binary32 x) → T (finite x) → Under (1 * 2 ^ 128) x
 single-under nan t h = absurd h
@@ -268,10 +252,6 @@ beyond-whole n h g = record { far = over-value (of n) false n h (whole-value bin
 pub bounded-zero : Bounded 0 0 nought
 unfolding ofBits
 bounded-zero = record { bound = lit≤ tt }
-
-pub bounded-half : Bounded 0 1 half
-unfolding ofBits
-bounded-half = record { bound = lit≤ tt }
 
 pub bounded-one : Bounded 0 1 one
 unfolding ofBits

@@ -28,11 +28,12 @@
 -- Picks, Cuts, Wholes     floor, ceil, round by the whole number next to x
 -- Remainders  `rem-small`, and what `rem_one` does in place of `%`; `rem-one-within`
 -- Patterns, Narrowing     bit patterns, and the f32 nearest to an f64
--- Squares, Roots, Value, Meaning     the square root; `sqrt-nearest`: no other value is nearer to it; `nearest-unique`
--- Ties, Rounding          what `round` means, and what is defined by it: no other value is nearer, and a tie goes to the even
---             one: `round-rounded`, `round-nearest`, `round-infinite`, `rounded-unique`; `narrow-rounded`,
---             `of-rounded`, `fraction-rounded`, `add-rounded`, `sub-rounded`, `mul-rounded`, `div-rounded`;
---             `root-nearest`; `counted`, `last-bit`
+-- Squares, Roots, Value, Meaning     the square root; `sqrt-nearest`: of each value above zero, no other value of the
+--             format is as near to it; `nearest-unique`; `in-units`: a finite value is a number of units
+-- Ties, Rounding     what `round` means: no other value of the format is as near, a tie goes to the even one, and
+--             from which size on it is infinite: `round-rounded`, `rounded-near`, `rounded-unique`, `last-bit`; and
+--             so of all that is defined by it: `narrow-rounded`, `of-rounded`, `fraction-rounded`, `add-rounded`,
+--             `sub-rounded`, `mul-rounded`, `div-rounded`
 -- Unrounded   floor, ceil, round lose nothing to the format: `floor-exact`, `ceil-exact`, `nearest-exact`
 -- Literals    what the small literals are; 01's examples of `round` and `rem_euclid`
 -- Finiteness  `finite-not-nan`, `below-top`, `not-below-top`
@@ -63,4 +64,3 @@ pub mod Amounts
 pub mod Unrounded
 pub mod Ties
 pub mod Rounding
-mod Examples

@@ -1,22 +1,25 @@
--- What `sqrtOf` comes to, in either format, at a value above zero: it is a value of the format, and no other is as
--- near to the root. Assumes nothing.
-use mathlib.Core.Path.{_≡_, sym, ap, _∙_, subst}
+-- What `sqrtOf` means, in either format (`sqrt-nearest`): at a value above zero it is a value of the format, and no
+-- other is as near to the root (`RootRounded` of specs/Nearest.antt). Assumes nothing.
+use mathlib.Core.Path.{_≡_, refl, sym, ap, _∙_, subst}
 use mathlib.Core.Logic.{_⊎_, inl, inr}
-use mathlib.Core.Bool.{Bool, false}
+use mathlib.Core.Bool.{Bool, true, false}
 use Prim.Native.Nat.{ℕ, zero, suc, _+_, _-_, _*_, _/_, _%_, _^_, _≤_, _<_}
 use native.Mathlib.Nat.{mul-right-comm, le-refl, le-antisymm, le-trans, le-of-lt, le-of-eq, le-of-suc-le-suc, lt-of-not-le, lt-irrefl, lt-of-lt-of-le, lt-of-le-of-lt, eq-or-lt-of-le, zero-mul, one-mul, mul-comm, mul-assoc, mul-mul-mul-comm, mul-le-mul, mul-le-mul-right, mul-lt-mul-of-pos-right, lt-of-mul-lt-mul-right, eq-of-mul-eq-mul-right, mul-pos, zero-lt-suc, add-mul, pow-suc}
 use native.Mathlib.Decide.{decLe}
 use native.Mathlib.Omega.{arith}
-use lib.Dec.{T, ltb, lit≤}
+use lib.Dec.{T, ltb, ltb→lt, lit≤}
 use lib.Pow.{pow-pos, pow-mono, pow-lt, pow-add, shl-lt}
-use lib.Ieee.{Float, nan, inf, fin, Format, binary32, binary64, prec, emax, low, up, down, size, units, odd, fits}
+use lib.Ieee.{Float, nan, inf, fin, Format, binary32, binary64, prec, emax, low, up, down, size, units, odd, lt, fits}
 use lib.Ieee.Digits.{size-lt, size-le, size-reaches}
 use lib.Ieee.Fits.{two, down-pos, odd-fits, cond-fits, inf-fits}
 use lib.Ieee.Exact.{HasValue, units-val}
-use Rattle.float.specs.Root.{isqrt, rootOf, sqrtOf, Nearest}
+use lib.Ieee.Scale.{finite}
+use Rattle.float.specs.Root.{isqrt, rootOf, sqrtOf}
+use Rattle.float.specs.Nearest.{Nearest, RootRounded}
 use Rattle.float.specs.Inner.{NearRoot, Rooted}
 use Rattle.float.proofs.Digits.{pow-lt→lt, halves}
 use Rattle.float.proofs.Exactly.{fits-parts, exponent}
+use Rattle.float.proofs.Compared.{nought}
 use Rattle.float.proofs.Squares.{square-lt-back, square-next, near-down, near-up, near-under}
 use Rattle.float.proofs.Roots.{IsRoot, isqrt-is, root-at}
 use Rattle.float.proofs.Value.{sqrt-of-value}
@@ -212,14 +215,9 @@ units-fit f c k h l =
     (odd-fits f (suc (prec f)) false c k (lt-of-le-of-lt h (omega (arith, pow-suc 2 (prec f), pow-pos (prec f)))) h l)
     (inf-fits f false)
 
-pub record Meaning (f : Format) (x : Float) (a : ℕ) : Type 0 where
-  pub r : ℕ
-  pub held : T (fits f (sqrtOf f x))
-  pub value : HasValue (sqrtOf f x) false r (2 ^ low f)
-  pub nearest : Nearest f (a * 2 ^ low f) r
-
-pub sqrt-nearest : (f : Format) (x : Float) (a : ℕ) → T (fits f x) → 0 < a → HasValue x false a (2 ^ low f) → Meaning f x a
-sqrt-nearest f x a F A v =
+-- of a number of units
+pub root-of-units : (f : Format) (x : Float) (a : ℕ) → T (fits f x) → 0 < a → HasValue x false a (2 ^ low f) → RootRounded f a (sqrtOf f x)
+root-of-units f x a F A v =
     let p = prec f in
     let l = low f in
     let p-pos : 0 < p = lt-of-lt-of-le (lit≤ tt) (two f) in
@@ -291,6 +289,31 @@ sqrt-nearest f x a F A v =
 
     below : (p k l e : ℕ) → 2 ≤ e → p - 1 + (p - 1) + (k + k) < e + l + l → p + k < l + e
     below p k l e h g = omega arith
+
+-- every finite value is a number of units
+pub record InUnits (f : Format) (x : Float) : Type 0 where
+  pub sign : Bool
+  pub count : ℕ
+  pub value : HasValue x sign count (2 ^ low f)
+
+pub in-units : (f : Format) (x : Float) → T (fits f x) → T (finite x) → InUnits f x
+in-units f nan F h = absurd h
+in-units f (inf s) F h = absurd h
+in-units f (fin s m e) F h = let j = exponent f m e (fits-parts f s m e F .1) in record { sign = s; count = m * 2 ^ j .0; value = (refl, j .1) }
+
+-- of every value above zero
+pub sqrt-nearest : (f : Format) (x : Float) → T (fits f x) → T (finite x) → T (lt nought x) → (a : ℕ) × HasValue x false a (2 ^ low f) × RootRounded f a (sqrtOf f x)
+unfolding lt in-units
+sqrt-nearest f nan F h l = absurd h
+sqrt-nearest f (inf s) F h l = absurd h
+sqrt-nearest f (fin true m e) F h l = absurd l
+sqrt-nearest f (fin false zero e) F h l = absurd (none (up e) (down e) (ltb→lt (0 * 1 * down e) (0 * up e * 1) l))
+  where
+    none : (u d : ℕ) → 0 * 1 * d < 0 * u * 1 → ⊥
+    none u d h = omega arith
+sqrt-nearest f (fin false (suc m) e) F h l =
+    let u = in-units f (fin false (suc m) e) F tt in
+    (u .count, u .value, root-of-units f (fin false (suc m) e) (u .count) F (mul-pos (zero-lt-suc m) (pow-pos (exponent f (suc m) e (fits-parts f false (suc m) e F .1) .0))) (u .value))
 
 -- two values of the format that are each nearest to one root are the same
 pub nearest-unique : (f : Format) (n r s : ℕ) (x y : Float) → T (fits f x) → T (fits f y) → HasValue x false r (2 ^ low f) → HasValue y false s (2 ^ low f) → Nearest f n r → Nearest f n s → r ≡ s

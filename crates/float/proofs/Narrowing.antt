@@ -18,7 +18,8 @@ use lib.Ieee.Bits.{ofBits-fits, cond-no, ofBits-toBits, nanBits-is, nanBits-abov
 use lib.Ieee.Exact.{HasValue, odd-sign, units-val}
 use lib.Ieee.Nearest.{closest, closest-same}
 use lib.Ieee.Scale.{round-same}
-use Rattle.float.specs.Single.{narrowOf, Narrowed}
+use Rattle.float.specs.Single.{narrowOf}
+use Rattle.float.specs.Inner.{Narrowed}
 use Rattle.float.proofs.Exactly.{unique}
 use Rattle.float.proofs.Digits.{pow-split, size-gt, Cmp, cmp}
 use Rattle.float.proofs.Patterns.{signed, ofBits-fields, closest-code}
@@ -49,12 +50,12 @@ at-fields : (f : Format) (s : Bool) (p x t a : ℕ) → ofBits f (signed f s + p
 at-fields f s p x t a e c d v =
     subst (λ (y : Float). HasValue y s a (2 ^ low f)) (sym (e ∙ ap (λ (y : ℕ). ofFields f s y (p % hid f)) c ∙ ap (λ (y : ℕ). ofFields f s x y) d)) v
 
-source-low : (s : Bool) (a : ℕ) → a < 4503599627370496 → HasValue (ofBits binary64 (signed binary64 s + a)) s (a * 2 ^ 0) (2 ^ 1074)
+source-low : (s : Bool) (a : ℕ) → a < 0x10_0000_0000_0000 → HasValue (ofBits binary64 (signed binary64 s + a)) s (a * 2 ^ 0) (2 ^ 1074)
 source-low s a h = at-fields binary64 s a 0 a (a * 2 ^ 0) (ofBits-fields binary64 s a (omega arith)) (omega arith) (omega arith) (low-val binary64 s a)
 
-source : (s : Bool) (a K : ℕ) → a / 4503599627370496 ≡ suc K → suc K < 2047 → HasValue (ofBits binary64 (signed binary64 s + a)) s ((4503599627370496 + a % 4503599627370496) * 2 ^ K) (2 ^ 1074)
+source : (s : Bool) (a K : ℕ) → a / 0x10_0000_0000_0000 ≡ suc K → suc K < 2047 → HasValue (ofBits binary64 (signed binary64 s + a)) s ((0x10_0000_0000_0000 + a % 0x10_0000_0000_0000) * 2 ^ K) (2 ^ 1074)
 source s a K e h =
-    at-fields binary64 s a (suc K) (a % 4503599627370496) ((4503599627370496 + a % 4503599627370496) * 2 ^ K) (ofBits-fields binary64 s a (omega arith)) e refl (field-val binary64 s K (a % 4503599627370496) h)
+    at-fields binary64 s a (suc K) (a % 0x10_0000_0000_0000) ((0x10_0000_0000_0000 + a % 0x10_0000_0000_0000) * 2 ^ K) (ofBits-fields binary64 s a (omega arith)) e refl (field-val binary64 s K (a % 0x10_0000_0000_0000) h)
 
 -- ---- `units` has a pattern
 pub units-fits : (f : Format) (s : Bool) (q k : ℕ) → q ≤ 2 ^ prec f → T (fits f (units f s q k))
@@ -69,7 +70,7 @@ pub units-over : (f : Format) (s : Bool) (q k : ℕ) → 2 ^ (low f + suc (emax 
 unfolding units
 units-over f s q k h = cond-no (ltb (q * 2 ^ k) (2 ^ (low f + suc (emax f)))) (odd (suc (prec f)) s q k (low f)) (inf s) (le→nltb (q * 2 ^ k) (2 ^ (low f + suc (emax f))) h)
 
-inf-pattern : (s : Bool) → ofBits binary32 (signed binary32 s + 2139095040) ≡ inf s
+inf-pattern : (s : Bool) → ofBits binary32 (signed binary32 s + 0x7f80_0000) ≡ inf s
 unfolding ofBits
 inf-pattern true = refl
 inf-pattern false = refl
@@ -91,7 +92,7 @@ target-low s q h =
     same-value s p q 0 (omega arith) (under-top q 0 (omega arith) (lit≤ tt))
     (at-fields binary32 s p 0 q (q * 2 ^ 0) (ofBits-fields binary32 s p (omega arith)) (omega arith) (omega arith) (low-val binary32 s q))
 
-target-mid : (s : Bool) (q k : ℕ) → 8388608 ≤ q → q < 16777216 → k ≤ 253 → ofBits binary32 (signed binary32 s + (k * 8388608 + q)) ≡ units binary32 s q k
+target-mid : (s : Bool) (q k : ℕ) → 8388608 ≤ q → q < 0x100_0000 → k ≤ 253 → ofBits binary32 (signed binary32 s + (k * 8388608 + q)) ≡ units binary32 s q k
 target-mid s q k l h m =
     let p = k * 8388608 + q in
     let e : 8388608 + (q - 8388608) ≡ q = omega arith in
@@ -100,21 +101,21 @@ target-mid s q k l h m =
     (subst (λ (z : ℕ). HasValue (ofFields binary32 s (suc k) (q - 8388608)) s (z * 2 ^ k) (2 ^ 149)) e (field-val binary32 s k (q - 8388608) (omega arith))))
 
 -- a carry out of the digits
-target-next : (s : Bool) (k : ℕ) → k ≤ 252 → ofBits binary32 (signed binary32 s + (k * 8388608 + 16777216)) ≡ units binary32 s 16777216 k
+target-next : (s : Bool) (k : ℕ) → k ≤ 252 → ofBits binary32 (signed binary32 s + (k * 8388608 + 0x100_0000)) ≡ units binary32 s 0x100_0000 k
 target-next s k m =
-    let p = k * 8388608 + 16777216 in
-    let e : (8388608 + 0) * 2 ^ suc k ≡ 16777216 * 2 ^ k = ap (λ (z : ℕ). 8388608 * z) (pow-succ' 2 k) ∙ sym (mul-assoc 8388608 2 (2 ^ k)) in
-    same-value s p 16777216 k (lit≤ tt) (subst (λ (z : ℕ). z < 2 ^ 277) (pow-add 2 24 k) (pow-lt (reach k m)))
-    (at-fields binary32 s p (suc (suc k)) 0 (16777216 * 2 ^ k) (ofBits-fields binary32 s p (omega arith)) (omega arith) (omega arith)
+    let p = k * 8388608 + 0x100_0000 in
+    let e : (8388608 + 0) * 2 ^ suc k ≡ 0x100_0000 * 2 ^ k = ap (λ (z : ℕ). 8388608 * z) (pow-succ' 2 k) ∙ sym (mul-assoc 8388608 2 (2 ^ k)) in
+    same-value s p 0x100_0000 k (lit≤ tt) (subst (λ (z : ℕ). z < 2 ^ 277) (pow-add 2 24 k) (pow-lt (reach k m)))
+    (at-fields binary32 s p (suc (suc k)) 0 (0x100_0000 * 2 ^ k) (ofBits-fields binary32 s p (omega arith)) (omega arith) (omega arith)
     (subst (λ (z : ℕ). HasValue (ofFields binary32 s (suc (suc k)) 0) s z (2 ^ 149)) e (field-val binary32 s (suc k) 0 (omega arith))))
   where
     reach : (k : ℕ) → k ≤ 252 → 24 + k < 277
     reach k l = omega arith
 
-target-top : (s : Bool) → ofBits binary32 (signed binary32 s + (253 * 8388608 + 16777216)) ≡ units binary32 s 16777216 253
-target-top s = inf-pattern s ∙ sym (units-over binary32 s 16777216 253 (lit≤ tt))
+target-top : (s : Bool) → ofBits binary32 (signed binary32 s + (253 * 8388608 + 0x100_0000)) ≡ units binary32 s 0x100_0000 253
+target-top s = inf-pattern s ∙ sym (units-over binary32 s 0x100_0000 253 (lit≤ tt))
 
-pub target : (s : Bool) (q k : ℕ) → q ≤ 16777216 → 8388608 ≤ q → k ≤ 253 → ofBits binary32 (signed binary32 s + (k * 8388608 + q)) ≡ units binary32 s q k
+pub target : (s : Bool) (q k : ℕ) → q ≤ 0x100_0000 → 8388608 ≤ q → k ≤ 253 → ofBits binary32 (signed binary32 s + (k * 8388608 + q)) ≡ units binary32 s q k
 target s q k h l m =
     elim (eq-or-lt-of-le h) [
       | inl e ↦ subst (λ (z : ℕ). ofBits binary32 (signed binary32 s + (k * 8388608 + z)) ≡ units binary32 s z k) (sym e) (top (eq-or-lt-of-le m))
@@ -124,8 +125,8 @@ target s q k h l m =
     less : (k : ℕ) → k < 253 → k ≤ 252
     less k h = omega arith
 
-    top : (k ≡ 253) ⊎ (k < 253) → ofBits binary32 (signed binary32 s + (k * 8388608 + 16777216)) ≡ units binary32 s 16777216 k
-    top (inl e) = subst (λ (z : ℕ). ofBits binary32 (signed binary32 s + (z * 8388608 + 16777216)) ≡ units binary32 s 16777216 z) (sym e) (target-top s)
+    top : (k ≡ 253) ⊎ (k < 253) → ofBits binary32 (signed binary32 s + (k * 8388608 + 0x100_0000)) ≡ units binary32 s 0x100_0000 k
+    top (inl e) = subst (λ (z : ℕ). ofBits binary32 (signed binary32 s + (z * 8388608 + 0x100_0000)) ≡ units binary32 s 0x100_0000 z) (sym e) (target-top s)
     top (inr u) = target-next s k (less k u)
 
 -- ---- `round` of D * 2 ^ K of the smallest `f64`
@@ -175,93 +176,93 @@ size-low D K h l =
 
 -- ---- the four ranges of a
 abbrev pub rounded : ℕ → ℕ
-rounded y = (y + 268435455 + y / 536870912 % 2) / 536870912
+rounded y = (y + 0xfff_ffff + y / 0x2000_0000 % 2) / 0x2000_0000
 
-digits-lo : (a : ℕ) → 2 ^ 52 ≤ 4503599627370496 + a % 4503599627370496
+digits-lo : (a : ℕ) → 2 ^ 52 ≤ 0x10_0000_0000_0000 + a % 0x10_0000_0000_0000
 digits-lo a = omega arith
 
-digits-hi : (a : ℕ) → 4503599627370496 + a % 4503599627370496 < 2 ^ 53
+digits-hi : (a : ℕ) → 0x10_0000_0000_0000 + a % 0x10_0000_0000_0000 < 2 ^ 53
 digits-hi a = omega arith
 
 -- the `f32`'s digits, from 2 ^ 23 up to 2 ^ 24
 code-29 : (D : ℕ) → rounded D ≡ closest D (2 ^ 29)
-code-29 D = closest-code D 268435456 (lit< tt)
+code-29 D = closest-code D 0x1000_0000 (lit< tt)
 
-value : (s : Bool) (a K k : ℕ) → a / 4503599627370496 ≡ suc K → suc K < 2047 → K ≡ 896 + k
-    → narrowOf (ofBits binary64 (signed binary64 s + a)) ≡ units binary32 s (rounded (4503599627370496 + a % 4503599627370496)) k
+value : (s : Bool) (a K k : ℕ) → a / 0x10_0000_0000_0000 ≡ suc K → suc K < 2047 → K ≡ 896 + k
+    → narrowOf (ofBits binary64 (signed binary64 s + a)) ≡ units binary32 s (rounded (0x10_0000_0000_0000 + a % 0x10_0000_0000_0000)) k
 value s a K k e h f =
-    let D = 4503599627370496 + a % 4503599627370496 in
+    let D = 0x10_0000_0000_0000 + a % 0x10_0000_0000_0000 in
     narrow-value (ofBits binary64 (signed binary64 s + a)) s (D * 2 ^ K) (2 ^ 1074) (pow-pos 1074) (source s a K e h)
     ∙ round-units s D K 29 k (omega arith) (size-normal D K k f (digits-lo a) (digits-hi a))
     ∙ ap (λ (q : ℕ). units binary32 s q k) (sym (code-29 D))
 
-pub normal : (a : ℕ) → 4039728865751334912 ≤ a → a < 5183643171103440896 → Narrowed a (rounded (a - 4035225266123964416))
+pub normal : (a : ℕ) → 0x3810_0000_0000_0000 ≤ a → a < 0x47f0_0000_0000_0000 → Narrowed a (rounded (a - 0x3800_0000_0000_0000))
 normal a l h =
-    let D = 4503599627370496 + a % 4503599627370496 in
-    let k = a / 4503599627370496 - 897 in
+    let D = 0x10_0000_0000_0000 + a % 0x10_0000_0000_0000 in
+    let k = a / 0x10_0000_0000_0000 - 897 in
     let K = 896 + k in
-    let e : a / 4503599627370496 ≡ suc K = omega arith in
+    let e : a / 0x10_0000_0000_0000 ≡ suc K = omega arith in
     let k-le : k ≤ 253 = omega arith in
-    let r : k * 8388608 + rounded D ≡ rounded (a - 4035225266123964416) = split a (a % 4503599627370496) k (whole a k e) (short a) in
+    let r : k * 8388608 + rounded D ≡ rounded (a - 0x3800_0000_0000_0000) = split a (a % 0x10_0000_0000_0000) k (whole a k e) (short a) in
     record {
-      small = subst (λ (z : ℕ). z ≤ 2139095040) r (under D k (digits-hi a) k-le);
+      small = subst (λ (z : ℕ). z ≤ 0x7f80_0000) r (under D k (digits-hi a) k-le);
       is = λ s. value s a K k e (field k k-le) refl ∙ sym (target s (rounded D) k (most D (digits-hi a)) (least D (digits-lo a)) k-le) ∙ ap (λ (p : ℕ). ofBits binary32 (signed binary32 s + p)) r;
     }
   where
     field : (k : ℕ) → k ≤ 253 → suc (896 + k) < 2047
     field k h = omega arith
 
-    most : (D : ℕ) → D < 2 ^ 53 → rounded D ≤ 16777216
+    most : (D : ℕ) → D < 2 ^ 53 → rounded D ≤ 0x100_0000
     most D h = omega arith
 
     least : (D : ℕ) → 2 ^ 52 ≤ D → 8388608 ≤ rounded D
     least D h = omega arith
 
-    under : (D k : ℕ) → D < 2 ^ 53 → k ≤ 253 → k * 8388608 + rounded D ≤ 2139095040
+    under : (D k : ℕ) → D < 2 ^ 53 → k ≤ 253 → k * 8388608 + rounded D ≤ 0x7f80_0000
     under D k h l = omega arith
 
-    whole : (a k : ℕ) → a / 4503599627370496 ≡ suc (896 + k) → a ≡ (897 + k) * 4503599627370496 + a % 4503599627370496
+    whole : (a k : ℕ) → a / 0x10_0000_0000_0000 ≡ suc (896 + k) → a ≡ (897 + k) * 0x10_0000_0000_0000 + a % 0x10_0000_0000_0000
     whole a k e = omega arith
 
-    short : (a : ℕ) → a % 4503599627370496 < 4503599627370496
+    short : (a : ℕ) → a % 0x10_0000_0000_0000 < 0x10_0000_0000_0000
     short a = omega arith
 
-    split : (a t k : ℕ) → a ≡ (897 + k) * 4503599627370496 + t → t < 4503599627370496 → k * 8388608 + rounded (4503599627370496 + t) ≡ rounded (a - 4035225266123964416)
+    split : (a t k : ℕ) → a ≡ (897 + k) * 0x10_0000_0000_0000 + t → t < 0x10_0000_0000_0000 → k * 8388608 + rounded (0x10_0000_0000_0000 + t) ≡ rounded (a - 0x3800_0000_0000_0000)
     split a t k e h =
-        let D = 4503599627370496 + t in
-        let y = a - 4035225266123964416 in
-        let y-is : y ≡ D + k * 8388608 * 536870912 = omega arith in
-        let b : y / 536870912 % 2 ≡ D / 536870912 % 2 = ap (λ (z : ℕ). z / 536870912 % 2) y-is ∙ ap (λ (z : ℕ). z % 2) (add-mul-div-right D (k * 8388608) (lit< tt)) ∙ even (D / 536870912) k in
+        let D = 0x10_0000_0000_0000 + t in
+        let y = a - 0x3800_0000_0000_0000 in
+        let y-is : y ≡ D + k * 8388608 * 0x2000_0000 = omega arith in
+        let b : y / 0x2000_0000 % 2 ≡ D / 0x2000_0000 % 2 = ap (λ (z : ℕ). z / 0x2000_0000 % 2) y-is ∙ ap (λ (z : ℕ). z % 2) (add-mul-div-right D (k * 8388608) (lit< tt)) ∙ even (D / 0x2000_0000) k in
         add-comm (k * 8388608) (rounded D)
-        ∙ sym (add-mul-div-right (D + 268435455 + D / 536870912 % 2) (k * 8388608) (lit< tt))
-        ∙ ap (λ (z : ℕ). z / 536870912) (order D (D / 536870912 % 2) (k * 8388608 * 536870912) y (y / 536870912 % 2) y-is b)
+        ∙ sym (add-mul-div-right (D + 0xfff_ffff + D / 0x2000_0000 % 2) (k * 8388608) (lit< tt))
+        ∙ ap (λ (z : ℕ). z / 0x2000_0000) (order D (D / 0x2000_0000 % 2) (k * 8388608 * 0x2000_0000) y (y / 0x2000_0000 % 2) y-is b)
       where
         even : (p k : ℕ) → (p + k * 8388608) % 2 ≡ p % 2
         even p k = omega arith
 
-        order : (D b p y c : ℕ) → y ≡ D + p → c ≡ b → D + 268435455 + b + p ≡ y + 268435455 + c
+        order : (D b p y c : ℕ) → y ≡ D + p → c ≡ b → D + 0xfff_ffff + b + p ≡ y + 0xfff_ffff + c
         order D b p y c e f = omega arith
 
-inf-64 : (s : Bool) → narrowOf (ofBits binary64 (signed binary64 s + 9218868437227405312)) ≡ inf s
+inf-64 : (s : Bool) → narrowOf (ofBits binary64 (signed binary64 s + 0x7ff0_0000_0000_0000)) ≡ inf s
 unfolding ofBits narrowOf
 inf-64 true = refl
 inf-64 false = refl
 
-pub over : (a : ℕ) → 5183643171103440896 ≤ a → a ≤ 9218868437227405312 → Narrowed a 2139095040
+pub over : (a : ℕ) → 0x47f0_0000_0000_0000 ≤ a → a ≤ 0x7ff0_0000_0000_0000 → Narrowed a 0x7f80_0000
 over a l h = record { small = lit≤ tt; is = λ s. go s (eq-or-lt-of-le h) ∙ sym (inf-pattern s) }
   where
-    go : (s : Bool) → (a ≡ 9218868437227405312) ⊎ (a < 9218868437227405312) → narrowOf (ofBits binary64 (signed binary64 s + a)) ≡ inf s
+    go : (s : Bool) → (a ≡ 0x7ff0_0000_0000_0000) ⊎ (a < 0x7ff0_0000_0000_0000) → narrowOf (ofBits binary64 (signed binary64 s + a)) ≡ inf s
     go s (inl e) = subst (λ (z : ℕ). narrowOf (ofBits binary64 (signed binary64 s + z)) ≡ inf s) (sym e) (inf-64 s)
     go s (inr u) =
-        let D = 4503599627370496 + a % 4503599627370496 in
-        let k = a / 4503599627370496 - 897 in
+        let D = 0x10_0000_0000_0000 + a % 0x10_0000_0000_0000 in
+        let k = a / 0x10_0000_0000_0000 - 897 in
         value s a (896 + k) k (omega arith) (omega arith) refl
         ∙ units-over binary32 s (rounded D) k (le-trans (le-of-eq (pow-add 2 23 254)) (mul-le-mul (least D (digits-lo a)) (pow-mono (high a k refl l))))
       where
         least : (D : ℕ) → 2 ^ 52 ≤ D → 8388608 ≤ rounded D
         least D h = omega arith
 
-        high : (a k : ℕ) → k ≡ a / 4503599627370496 - 897 → 5183643171103440896 ≤ a → 254 ≤ k
+        high : (a k : ℕ) → k ≡ a / 0x10_0000_0000_0000 - 897 → 0x47f0_0000_0000_0000 ≤ a → 254 ≤ k
         high a k e l = omega arith
 
 -- ---- below the normal range
@@ -294,16 +295,16 @@ below s x D K j v h e l =
     ∙ round-units s D K j 0 (omega arith) (size-low D K h (omega arith))
     ∙ sym (target-sub s (closest D (2 ^ j)) (closest-le D j l h))
 
-pub sub : (a : ℕ) → 3927138875067072512 ≤ a → a < 4039728865751334912 → Narrowed a (low-rounded (a % 4503599627370496 + 4503599627370496) (925 - a / 4503599627370496))
+pub sub : (a : ℕ) → 0x3680_0000_0000_0000 ≤ a → a < 0x3810_0000_0000_0000 → Narrowed a (low-rounded (a % 0x10_0000_0000_0000 + 0x10_0000_0000_0000) (925 - a / 0x10_0000_0000_0000))
 sub a l h =
-    let D = 4503599627370496 + a % 4503599627370496 in
-    let k = 925 - a / 4503599627370496 in
-    let K = a / 4503599627370496 - 1 in
-    let e : a / 4503599627370496 ≡ suc K = omega arith in
-    let c : closest D (2 ^ (k + 1)) ≡ low-rounded (a % 4503599627370496 + 4503599627370496) k = sym (code-low D k) ∙ ap (λ (z : ℕ). low-rounded z k) (add-comm 4503599627370496 (a % 4503599627370496)) in
+    let D = 0x10_0000_0000_0000 + a % 0x10_0000_0000_0000 in
+    let k = 925 - a / 0x10_0000_0000_0000 in
+    let K = a / 0x10_0000_0000_0000 - 1 in
+    let e : a / 0x10_0000_0000_0000 ≡ suc K = omega arith in
+    let c : closest D (2 ^ (k + 1)) ≡ low-rounded (a % 0x10_0000_0000_0000 + 0x10_0000_0000_0000) k = sym (code-low D k) ∙ ap (λ (z : ℕ). low-rounded z k) (add-comm 0x10_0000_0000_0000 (a % 0x10_0000_0000_0000)) in
     let j-ge : 30 ≤ k + 1 = omega arith in
     record {
-      small = subst (λ (z : ℕ). z ≤ 2139095040) c (le-trans (closest-le D (k + 1) j-ge (digits-hi a)) (lit≤ tt));
+      small = subst (λ (z : ℕ). z ≤ 0x7f80_0000) c (le-trans (closest-le D (k + 1) j-ge (digits-hi a)) (lit≤ tt));
       is = λ s.
           below s (ofBits binary64 (signed binary64 s + a)) D K (k + 1) (source s a K e (omega arith)) (digits-hi a) (omega arith) j-ge
           ∙ ap (λ (p : ℕ). ofBits binary32 (signed binary32 s + p)) c;
@@ -337,32 +338,32 @@ vanish s x D K v h l =
     reach : (K : ℕ) → K ≤ 870 → 54 ≤ 925 - K
     reach K l = omega arith
 
-pub tiny : (a : ℕ) → a < 3927138875067072512 → Narrowed a 0
-tiny a h = record { small = lit≤ tt; is = λ s. go s (a / 4503599627370496) refl }
+pub tiny : (a : ℕ) → a < 0x3680_0000_0000_0000 → Narrowed a 0
+tiny a h = record { small = lit≤ tt; is = λ s. go s (a / 0x10_0000_0000_0000) refl }
   where
-    first : (a : ℕ) → a / 4503599627370496 ≡ 0 → a < 4503599627370496
+    first : (a : ℕ) → a / 0x10_0000_0000_0000 ≡ 0 → a < 0x10_0000_0000_0000
     first a e = omega arith
 
-    wide : (a : ℕ) → a / 4503599627370496 ≡ 0 → a < 2 ^ 53
+    wide : (a : ℕ) → a / 0x10_0000_0000_0000 ≡ 0 → a < 2 ^ 53
     wide a e = omega arith
 
-    go : (s : Bool) (x : ℕ) → a / 4503599627370496 ≡ x → narrowOf (ofBits binary64 (signed binary64 s + a)) ≡ ofBits binary32 (signed binary32 s + 0)
+    go : (s : Bool) (x : ℕ) → a / 0x10_0000_0000_0000 ≡ x → narrowOf (ofBits binary64 (signed binary64 s + a)) ≡ ofBits binary32 (signed binary32 s + 0)
     go s zero e = vanish s (ofBits binary64 (signed binary64 s + a)) a 0 (source-low s a (first a e)) (wide a e) (lit≤ tt)
-    go s (suc K) e = vanish s (ofBits binary64 (signed binary64 s + a)) (4503599627370496 + a % 4503599627370496) K (source s a K e (omega arith)) (digits-hi a) (omega arith)
+    go s (suc K) e = vanish s (ofBits binary64 (signed binary64 s + a)) (0x10_0000_0000_0000 + a % 0x10_0000_0000_0000) K (source s a K e (omega arith)) (digits-hi a) (omega arith)
 
 -- ---- with the sign
-pub with-sign : (b r : ℕ) → b < 2 ^ 64 → Narrowed (b % 9223372036854775808) r → ofBits binary32 (r + b / 9223372036854775808 * 2147483648) ≡ narrowOf (ofBits binary64 b)
-with-sign b r h w = go (b / 9223372036854775808) refl
+pub with-sign : (b r : ℕ) → b < 2 ^ 64 → Narrowed (b % 0x8000_0000_0000_0000) r → ofBits binary32 (r + b / 0x8000_0000_0000_0000 * 0x8000_0000) ≡ narrowOf (ofBits binary64 b)
+with-sign b r h w = go (b / 0x8000_0000_0000_0000) refl
   where
-    at : (s : Bool) (p : ℕ) → cond s (2 ^ 63) 0 + b % 9223372036854775808 ≡ b → cond s (2 ^ 31) 0 + r ≡ p → ofBits binary32 p ≡ narrowOf (ofBits binary64 b)
+    at : (s : Bool) (p : ℕ) → cond s (2 ^ 63) 0 + b % 0x8000_0000_0000_0000 ≡ b → cond s (2 ^ 31) 0 + r ≡ p → ofBits binary32 p ≡ narrowOf (ofBits binary64 b)
     at s p e f = ap (λ (z : ℕ). ofBits binary32 z) (sym f) ∙ sym (w .is s) ∙ ap (λ (z : ℕ). narrowOf (ofBits binary64 z)) e
 
-    go : (x : ℕ) → b / 9223372036854775808 ≡ x → ofBits binary32 (r + x * 2147483648) ≡ narrowOf (ofBits binary64 b)
-    go zero e = at false (r + 0 * 2147483648) (omega arith) (omega arith)
-    go (suc zero) e = at true (r + 1 * 2147483648) (omega arith) (omega arith)
-    go (suc (suc x)) e = absurd (one (b / 9223372036854775808) b x h refl e)
+    go : (x : ℕ) → b / 0x8000_0000_0000_0000 ≡ x → ofBits binary32 (r + x * 0x8000_0000) ≡ narrowOf (ofBits binary64 b)
+    go zero e = at false (r + 0 * 0x8000_0000) (omega arith) (omega arith)
+    go (suc zero) e = at true (r + 1 * 0x8000_0000) (omega arith) (omega arith)
+    go (suc (suc x)) e = absurd (one (b / 0x8000_0000_0000_0000) b x h refl e)
       where
-        one : (q b x : ℕ) → b < 2 ^ 64 → q ≡ b / 9223372036854775808 → q ≡ suc (suc x) → ⊥
+        one : (q b x : ℕ) → b < 2 ^ 64 → q ≡ b / 0x8000_0000_0000_0000 → q ≡ suc (suc x) → ⊥
         one q b x h e f = omega arith
 
 -- what is no NaN has a pattern up to the infinity's
@@ -372,13 +373,13 @@ not-nan nan h = absurd h
 not-nan (inf s) h = tt
 not-nan (fin s m e) h = tt
 
-pub magnitude-le : (x : Float) → T (fits binary64 x) → T (not (isNan x)) → toBits binary64 x % 9223372036854775808 ≤ 9218868437227405312
+pub magnitude-le : (x : Float) → T (fits binary64 x) → T (not (isNan x)) → toBits binary64 x % 0x8000_0000_0000_0000 ≤ 0x7ff0_0000_0000_0000
 magnitude-le x t h =
     let b = toBits binary64 x in
-    nltb→le 9218868437227405312 (b % 9223372036854775808)
+    nltb→le 0x7ff0_0000_0000_0000 (b % 0x8000_0000_0000_0000)
     (subst (λ (y : Bool). T (not y)) (sym (ap isNan (ofBits-toBits binary64 x t)) ∙ sym (nanBits-is binary64 b) ∙ nanBits-above binary64 b) h)
 
-pub pattern-ok : (b r : ℕ) → b < 2 ^ 64 → r ≤ 2139095040 → T (not (nanBits binary32 (r + b / 9223372036854775808 * 2147483648)))
+pub pattern-ok : (b r : ℕ) → b < 2 ^ 64 → r ≤ 0x7f80_0000 → T (not (nanBits binary32 (r + b / 0x8000_0000_0000_0000 * 0x8000_0000)))
 pattern-ok b r h l =
-    let p = r + b / 9223372036854775808 * 2147483648 in
-    subst (λ (y : Bool). T (not y)) (sym (nanBits-above binary32 p)) (le→nltb 2139095040 (p % 2147483648) (omega arith))
+    let p = r + b / 0x8000_0000_0000_0000 * 0x8000_0000 in
+    subst (λ (y : Bool). T (not y)) (sym (nanBits-above binary32 p)) (le→nltb 0x7f80_0000 (p % 0x8000_0000) (omega arith))

@@ -1,21 +1,17 @@
--- What `round` means, in either format (`round-rounded`): no other value of the format, of either sign, is as near to
--- the fraction as the result, but at a tie, where the result is the one whose
--- last digit is even. From half-way between the largest finite value and the next power of two on, and only there, it
--- is an infinity. Only one value is that (`rounded-unique`). In whole numbers:
--- a finite value is a number of units of the format's smallest. What is defined by `round` has it too:
--- `narrow-rounded`, `of-rounded`, `fraction-rounded`, `add-rounded`, `sub-rounded`, `mul-rounded`, `div-rounded`.
--- And `root-nearest`: `sqrt-nearest` of each value above zero. Assumes nothing.
+-- What `round` means, in either format: `Rounded` of specs/Nearest.antt holds of what it gives (`round-rounded`), and
+-- of no other value (`rounded-unique`). So it does of what is defined by it: `narrow-rounded`, `of-rounded`,
+-- `fraction-rounded`, `add-rounded`, `sub-rounded`, `mul-rounded`, `div-rounded`. Assumes nothing.
 use mathlib.Core.Path.{_≡_, refl, sym, ap, _∙_, subst}
 use mathlib.Core.Logic.{inl, inr, ⊎-elim, _↔_}
 use mathlib.Core.Bool.{Bool, true, false, not, _&&_, Bool·beq, cond}
-use Prim.Native.Nat.{ℕ, zero, suc, _+_, _-_, _*_, _^_, _≤_, _<_}
-use native.Mathlib.Nat.{le-trans, le-of-eq, le-antisymm, lt-of-not-le, lt-of-lt-of-le, eq-zero-or-pos, zero-lt-suc, zero-mul, mul-pos, mul-assoc, mul-le-mul-right, mul-lt-mul-of-pos-right, le-of-mul-le-mul-right, pow-suc}
+use Prim.Native.Nat.{ℕ, suc, _+_, _-_, _*_, _^_, _≤_, _<_}
+use native.Mathlib.Nat.{le-trans, le-of-eq, le-antisymm, lt-of-not-le, lt-of-lt-of-le, eq-zero-or-pos, zero-mul, mul-pos, mul-assoc, mul-le-mul-right, mul-lt-mul-of-pos-right, le-of-mul-le-mul-right, pow-suc}
 use native.Mathlib.Decide.{decLe}
 use native.Mathlib.Omega.{arith}
 use lib.Dec.{T, ltb, ltb→lt, nltb→le, lit<}
 use lib.Arith.{le→nltb}
 use lib.Pow.{pow-pos, pow-add}
-use lib.Ieee.{Float, nan, inf, fin, Format, binary32, binary64, prec, emax, low, unlike, up, down, size, odd, units, round, sum, ofInt, lt, fits}
+use lib.Ieee.{Float, nan, inf, fin, Format, binary32, binary64, prec, emax, low, unlike, up, down, size, odd, units, round, sum, ofInt, fits}
 use lib.Ieee.Bits.{cond-no}
 use lib.Ieee.Fits.{round-is, round-fits, down-pos}
 use lib.Ieee.Exact.{HasValue, units-val}
@@ -23,40 +19,16 @@ use lib.Ieee.Order.{drop, kept}
 use lib.Ieee.Scale.{grid, overflow, finite, round-same}
 use Rattle.float.specs.Ops.{_⊕_, _⊖_, _⊗_, _⊘_, of, fraction}
 use Rattle.float.specs.Single.{narrowOf}
-use Rattle.float.proofs.Exactly.{unique, fits-parts, exponent}
-use Rattle.float.proofs.Compared.{nought}
+use Rattle.float.proofs.Exactly.{unique}
 use Rattle.float.proofs.Sums.{add-over, sub-over, mul-over, div-over}
-use Rattle.float.proofs.Meaning.{Digits, digits, Meaning, sqrt-nearest}
-use Rattle.float.proofs.Ties.{lastDigit, cut-off, Closer, Best, best, largest, highest, next-is, largest-lt, largest-digits, next-digits, largest-odd, largest-most}
-
--- ---- what is claimed
-
--- the distance of ± a and ± b
-abbrev pub apart : Bool → ℕ → Bool → ℕ → ℕ
-apart s a t b = cond (Bool·beq s t) (a - b + (b - a)) (a + b)
-
--- a / c is (2 ^ prec - 1/2) * 2 ^ (emax + 1 - prec) at least: the largest finite value and half of its last digit
-abbrev pub Over : Format → ℕ → ℕ → Type 0
-Over f a c = (2 ^ suc (prec f) - 1) * 2 ^ (suc (emax f) - prec f) * c ≤ 2 * a
-
--- x is ± r units of 2 ^ -low. Each value y of the format, ± b units, that is another number is farther from ± a / c;
--- or it is as far, and the last digit of x is even and that of y is odd.
--- (The distances are times c * 2 ^ low.)
-pub record Near (f : Format) (s : Bool) (a c : ℕ) (x : Float) : Type 0 where
-  pub r : ℕ
-  pub value : HasValue x s r (2 ^ low f)
-  pub nearest : (y : Float) (t : Bool) (b : ℕ) → T (fits f y) → HasValue y t b (2 ^ low f) → 0 < apart s r t b → Closer f r b (apart s (a * 2 ^ low f) s (r * c)) (apart s (a * 2 ^ low f) t (b * c))
-
--- x is ± a / c rounded to the format
-pub record Rounded (f : Format) (s : Bool) (a c : ℕ) (x : Float) : Type 0 where
-  pub held : T (fits f x)
-  pub infinite : (x ≡ inf s) ↔ Over f a c
-  pub near : (Over f a c → ⊥) → Near f s a c x
+use Rattle.float.proofs.Meaning.{Digits, digits}
+use Rattle.float.specs.Nearest.{apart, lastDigit, Closer, Near, Overflows, Rounded}
+use Rattle.float.proofs.Ties.{cut-off, Best, best, largest, highest, next-is, largest-lt, largest-digits, next-digits, largest-odd, largest-most}
 
 -- ---- the infinity
 
 -- the same in units
-over-units : (f : Format) (a c : ℕ) → Over f a c ↔ ((overflow f + largest f) * c ≤ 2 * (a * 2 ^ low f))
+over-units : (f : Format) (a c : ℕ) → Overflows f a c ↔ ((overflow f + largest f) * c ≤ 2 * (a * 2 ^ low f))
 unfolding largest
 over-units f a c = (
   λ h. le-trans (le-of-eq same) (le-trans (mul-le-mul-right (2 ^ low f) h) (le-of-eq (mul-assoc 2 a (2 ^ low f)))),
@@ -153,7 +125,7 @@ round-rounded f s a c C = go (decLe (overflow f) (grid f a c))
 
     go : Dec (overflow f ≤ grid f a c) → Rounded f s a c (round f s a c)
     go (yes l) =
-        let over : Over f a c = over-units f a c .1 (at-over f (a * 2 ^ low f) c (grid f a c) (best f a c C) l) in
+        let over : Overflows f a c = over-units f a c .1 (at-over f (a * 2 ^ low f) c (grid f a c) (best f a c C) l) in
         record {
           held = held;
           infinite = (λ e. over, λ o. round-is f s a c ∙ units-over f s (kept (prec f) (a * 2 ^ low f) c) (drop (prec f) (a * 2 ^ low f) c) l);
@@ -178,14 +150,7 @@ round-rounded f s a c C = go (decLe (overflow f) (grid f a c))
 pub rounded-near : (f : Format) (s : Bool) (a c : ℕ) (x : Float) → Rounded f s a c x → T (finite x) → Near f s a c x
 rounded-near f s a c x w h = w .near (λ o. subst (λ (y : Float). T (finite y)) (w .infinite .1 o) h)
 
--- the theorem's two parts
-pub round-infinite : (f : Format) (s : Bool) (a c : ℕ) → 0 < c → (round f s a c ≡ inf s) ↔ Over f a c
-round-infinite f s a c C = round-rounded f s a c C .infinite
-
-pub round-nearest : (f : Format) (s : Bool) (a c : ℕ) → 0 < c → T (finite (round f s a c)) → Near f s a c (round f s a c)
-round-nearest f s a c C h = rounded-near f s a c (round f s a c) (round-rounded f s a c C) h
-
--- and only one value is
+-- only one value is the fraction rounded
 pub rounded-unique : (f : Format) (s : Bool) (a c : ℕ) (x y : Float) → Rounded f s a c x → Rounded f s a c y → x ≡ y
 rounded-unique f s a c x y v w = go (decLe ((2 ^ suc (prec f) - 1) * 2 ^ (suc (emax f) - prec f) * c) (2 * a))
   where
@@ -203,7 +168,7 @@ rounded-unique f s a c x y v w = go (decLe ((2 ^ suc (prec f) - 1) * 2 ^ (suc (e
     flip true a b h = omega arith
     flip false a b h = omega arith
 
-    go : Dec (Over f a c) → x ≡ y
+    go : Dec (Overflows f a c) → x ≡ y
     go (yes o) = v .infinite .1 o ∙ sym (w .infinite .1 o)
     go (no o) =
         let p = v .near o in
@@ -270,28 +235,3 @@ sub-rounded x y s t a b c C v w =
     twice : (t : Bool) → not (not t) ≡ t
     twice true = refl
     twice false = refl
-
--- ---- every finite value is a number of units, and so `sqrt-nearest` is of every value above zero
-
-pub record Counted (f : Format) (x : Float) : Type 0 where
-  pub sign : Bool
-  pub count : ℕ
-  pub value : HasValue x sign count (2 ^ low f)
-
-pub counted : (f : Format) (x : Float) → T (fits f x) → T (finite x) → Counted f x
-counted f nan F h = absurd h
-counted f (inf s) F h = absurd h
-counted f (fin s m e) F h = let j = exponent f m e (fits-parts f s m e F .1) in record { sign = s; count = m * 2 ^ (j .0); value = (refl, j .1) }
-
-pub root-nearest : (f : Format) (x : Float) → T (fits f x) → T (finite x) → T (lt nought x) → (a : ℕ) × HasValue x false a (2 ^ low f) × Meaning f x a
-unfolding lt
-root-nearest f nan F h l = absurd h
-root-nearest f (inf s) F h l = absurd h
-root-nearest f (fin true m e) F h l = absurd l
-root-nearest f (fin false zero e) F h l = absurd (none (up e) (down e) (ltb→lt (0 * 1 * down e) (0 * up e * 1) l))
-  where
-    none : (u d : ℕ) → 0 * 1 * d < 0 * u * 1 → ⊥
-    none u d h = omega arith
-root-nearest f (fin false (suc m) e) F h l =
-    let j = exponent f (suc m) e (fits-parts f false (suc m) e F .1) in
-    (suc m * 2 ^ (j .0), (refl, j .1), sqrt-nearest f (fin false (suc m) e) (suc m * 2 ^ (j .0)) F (mul-pos (zero-lt-suc m) (pow-pos (j .0))) (refl, j .1))

@@ -2,11 +2,11 @@
 -- sign bit). A rounded value has the sign that it was given, `round-signed`;
 -- `add-signed`, `square-signed`, `mul-signed`, `div-signed`, `sqrt-signed`, `abs-signed`, `narrow-signed`: the
 -- operations. `signed-number`: no NaN. (`signed-le` of `Monotone`: not below zero.) Over any format. Assumes nothing.
-use mathlib.Core.Path.{_≡_, refl, sym, ap, _∙_, subst}
+use mathlib.Core.Path.{_≡_, refl, sym, _∙_, subst}
 use Prim.Native.Nat.{ℕ, zero, suc, _+_, _*_, _/_, _^_, _<_}
 use mathlib.Core.Bool.{Bool, true, false, not, Bool·beq, cond, true≢false}
 use lib.Dec.{T, ltb, eqb}
-use lib.Ieee.{Float, nan, inf, fin, Format, binary32, prec, emax, low, unlike, up, down, odd, units, round, sum, neg, add, mul, div, isNan}
+use lib.Ieee.{Float, nan, inf, fin, Format, binary32, prec, emax, low, unlike, up, down, odd, units, round, sum, add, mul, div, isNan}
 use lib.Ieee.Fits.{round-is as round-core, down-pos}
 use lib.Ieee.Exact.{HasValue, odd-sign}
 use lib.Ieee.Scale.{finite}
@@ -48,12 +48,6 @@ unfolding isNan
 number-signed nan h = absurd h
 number-signed (inf t) h = (t, refl)
 number-signed (fin t m e) h = (t, refl)
-
-pub signed-neg : (x : Float) (s : Bool) → Signed s x → Signed (not s) (neg x)
-unfolding neg
-signed-neg nan s h = h
-signed-neg (inf t) s h = ap not h
-signed-neg (fin t m e) s h = ap not h
 
 pub abs-signed : (x : Float) → T (not (isNan x)) → Signed false (absOf x)
 unfolding isNan absOf

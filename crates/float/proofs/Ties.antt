@@ -1,7 +1,6 @@
 -- A fraction of whole numbers n / c rounded to p digits, a tie to the even number: what is nearest of the numbers
--- with p digits and zeros after them. `Best`, `best`: for what `round` computes,
--- in units of the format's smallest value. And the largest finite value, and the power of two after it. Assumes
--- nothing.
+-- with p digits and zeros after them. `Best`, `best`: for what `round` computes, in units of the format's smallest
+-- value. And the largest finite value, and the power of two after it. Assumes nothing.
 use mathlib.Core.Path.{_≡_, refl, sym, ap, _∙_, subst}
 use mathlib.Core.Logic.{_⊎_, inl, inr, ⊎-elim}
 use mathlib.Core.Bool.{Bool, true, false, cond}
@@ -17,6 +16,7 @@ use lib.Ieee.Fits.{down-pos, two, two-le-pos, reach, kept-lt, nearest-le}
 use lib.Ieee.Nearest.{closest, nearest-ge}
 use lib.Ieee.Order.{drop, kept}
 use lib.Ieee.Scale.{grid, overflow}
+use Rattle.float.specs.Nearest.{lastDigit, Closer}
 use Rattle.float.proofs.Digits.{Cmp, cmp, size-gt, size-exact, pow-split}
 use Rattle.float.proofs.Meaning.{Digits, multiple}
 
@@ -39,10 +39,6 @@ half n u U = go (n / u) (n % u) (div-add-mod' n u) (mod-lt n U) (compare (n % u 
     go q t e l Ordering·gt h = record { most = omega arith; least = omega arith; tie-up = λ g. omega arith; tie-down = λ g. omega arith }
 
 -- ---- the last digit
-
--- the last of the digits that the format keeps of a value of r units: 0 where it is even
-abbrev pub lastDigit : Format → ℕ → ℕ
-lastDigit f r = r / 2 ^ (size r - prec f) % 2
 
 -- what is left of m * 2 ^ z without its last z digits
 pub cut-off : (r m z : ℕ) → r ≡ m * 2 ^ z → r / 2 ^ z % 2 ≡ m % 2
@@ -113,8 +109,8 @@ odd-last p k g b P d e o deep =
         (eq-of-mul-eq-mul-right (2 ^ k) (pow-pos k) g (d .m * 2 ^ i * 2)
         (sym e ∙ d .is ∙ ap (λ (j : ℕ). d .m * 2 ^ j) s ∙ sym (pow-split (d .m) (suc i) k) ∙ ap (λ (x : ℕ). d .m * x * 2 ^ k) (pow-suc 2 i) ∙ ap (λ (x : ℕ). x * 2 ^ k) (sym (mul-assoc (d .m) (2 ^ i) 2))))
 
--- ---- n / c, in units, rounded to q * 2 ^ k, against a number b of p digits and zeros. Where digits are dropped, all
--- p are in use.
+-- ---- n / c, in units, rounded to q * 2 ^ k, against a number b of p digits and zeros. Where digits are dropped, all p
+-- are in use.
 
 -- l is less than g; or they are the same, and q is even, and the last digit of b is odd
 abbrev Beaten : ℕ → ℕ → ℕ → ℕ → ℕ → Type 0
@@ -195,12 +191,8 @@ module _ (p k n c q b : ℕ) (P : 0 < p) (C : 0 < c) (d : Digits p b) (near : Ha
             | inr e ↦ inl e
           ]
 
--- ---- in units the fraction is n / c, and the result r. Of the numbers with as many digits as the format has,
--- however large, none is as near, or one is and r is even
-
--- l is less than g; or they are the same, and the last digit of r is even, and that of b is odd
-abbrev pub Closer : Format → ℕ → ℕ → ℕ → ℕ → Type 0
-Closer f r b l g = (l < g) ⊎ ((l ≡ g) × (lastDigit f r ≡ 0) × (lastDigit f b ≡ 1))
+-- ---- in units the fraction is n / c, and the result r. Of the numbers with as many digits as the format has, however
+-- large, none is as near; or one is, and r is even
 
 pub record Best (f : Format) (n c r : ℕ) : Type 0 where
   pub above : (b : ℕ) → Digits (prec f) b → r < b → Closer f r b (2 * n) ((r + b) * c)

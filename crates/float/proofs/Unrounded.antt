@@ -21,11 +21,11 @@ whole-exact pick i s m (pos l) t =
     (subst (λ (x : Float). HasValue x s (m * 2 ^ l) 1) (sym (round-self binary64 s m (pos l) t)) (refl, refl))
 whole-exact pick i s m (negsuc l) t =
     let few = fits-parts binary64 s m (negsuc l) t .0 in
-    let top : pick (m * 1) (2 ^ suc l) ≤ 9007199254740991 =
-    le-trans (i .mono (m * 1) (2 ^ suc l) 9007199254740991 1 (pow-pos (suc l)) (lit< tt) (less m (2 ^ suc l) few (pow-pos (suc l)))) (le-of-eq (stays pick i 9007199254740991)) in
+    let top : pick (m * 1) (2 ^ suc l) ≤ 0x1f_ffff_ffff_ffff =
+    le-trans (i .mono (m * 1) (2 ^ suc l) 0x1f_ffff_ffff_ffff 1 (pow-pos (suc l)) (lit< tt) (less m (2 ^ suc l) few (pow-pos (suc l)))) (le-of-eq (stays pick i 0x1f_ffff_ffff_ffff)) in
     few-exact binary64 s (pick (m * 1) (2 ^ suc l)) (pos 0) (lit≤ tt) (lt-of-le-of-lt top (lit< tt))
   where
-    less : (m p : ℕ) → m < 2 ^ 53 → 0 < p → m * 1 * 1 ≤ 9007199254740991 * p
+    less : (m p : ℕ) → m < 2 ^ 53 → 0 < p → m * 1 * 1 ≤ 0x1f_ffff_ffff_ffff * p
     less m p h k = omega arith
 
 -- ---- floor, ceil and round of a value x = ± a / c: exactly the whole number that each picks, with the sign of x

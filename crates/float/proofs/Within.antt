@@ -1,9 +1,8 @@
 -- How large a result can be. `Within k x`: x is finite and at most 2 ^ k in size. Sums, differences, products and
--- quotients of such values stay such, `add-within`, `sub-within`, `mul-within`, `div-within`; so do `neg`, `abs`,
--- `max`, floor, ceil, round, the f32 nearest (`narrow-within`), and `sqrt-within`: the root of what is at most 4 ^ k.
--- `finite-within`: what a format holds.
--- `le-within`, `within-le`: the test |x| <= 2 ^ k. `within-finite`, `within-number`: it is finite, and no NaN. Over
--- any format but for the whole numbers. Assumes nothing.
+-- quotients of such values stay such, `add-within`, `sub-within`, `mul-within`, `div-within`; so do `neg`, `max`,
+-- floor, ceil, round, the f32 nearest (`narrow-within`), and `sqrt-within`: the root of what is at most 4 ^ k.
+-- `finite-within`: what a format holds. `le-within`, `within-le`: the test |x| <= 2 ^ k. `within-finite`,
+-- `within-number`: it is finite, and no NaN. Over any format but for the whole numbers. Assumes nothing.
 use mathlib.Core.Path.{_≡_, refl, sym, ap, _∙_, subst}
 use Prim.Native.Nat.{ℕ, zero, suc, _+_, _-_, _*_, _^_, _≤_, _<_, zero-le}
 use native.Mathlib.Nat.{lt-irrefl, lt-of-not-le, le-of-suc-le-suc, le-of-lt, zero-mul, zero-lt-suc, pow-succ', le-trans, le-of-eq, lt-of-lt-of-le, lt-of-le-of-lt, mul-one, one-mul, mul-pos, mul-comm, mul-assoc, mul-right-comm, mul-mul-mul-comm, mul-le-mul, mul-le-mul-right, le-of-mul-le-mul-right}
@@ -23,7 +22,7 @@ use Rattle.float.specs.Single.{narrowOf}
 use Rattle.float.specs.Root.{sqrtOf}
 use Rattle.float.proofs.Squares.{square-lt-back}
 use Rattle.float.proofs.Cuts.{revalue}
-use Rattle.float.proofs.Meaning.{sqrt-nearest}
+use Rattle.float.proofs.Meaning.{root-of-units}
 use Rattle.float.proofs.Exactly.{fits-parts, exponent, neg-round}
 use Rattle.float.proofs.Monotone.{le-fin, fin-le}
 use Rattle.float.proofs.Picks.{wholly, floor-pick, ceil-pick, round-pick, floor-steps, ceil-steps, round-steps, floor-is, ceil-is, round-is, Steps}
@@ -56,12 +55,6 @@ unfolding neg
 within-neg k nan h = h
 within-neg k (inf s) h = h
 within-neg k (fin s m e) h = h
-
-pub within-abs : (k : ℕ) (x : Float) → Within k x → Within k (absOf x)
-unfolding absOf
-within-abs k nan h = h
-within-abs k (inf s) h = h
-within-abs k (fin s m e) h = h
 
 -- ---- the test
 pub le-within : (k : ℕ) (x : Float) → T (le (absOf x) (fin false 1 (pos k))) → Within k x
@@ -166,18 +159,13 @@ mul-within f (fin s m e) (fin t n d) j k K h l =
     round-within f (unlike s t) (m * up e * (n * up d)) (down e * down d) (j + k) (mul-pos (down-pos e) (down-pos d)) K
     (le-trans (mul-le-mul h l) (le-of-eq (mul-mul-mul-comm (2 ^ j) (down e) (2 ^ k) (down d) ∙ ap (λ (z : ℕ). z * (down e * down d)) (sym (pow-add 2 j k)))))
 
-abbrev pub Beyond : ℕ → Float → Type 0
-Beyond k nan = ⊥
-Beyond k (inf s) = ⊥
-Beyond k (fin s m e) = down e ≤ m * up e * 2 ^ k
+-- y is at least 2 ^ -k in size
+abbrev pub AtLeast : ℕ → Float → Type 0
+AtLeast k nan = ⊥
+AtLeast k (inf s) = ⊥
+AtLeast k (fin s m e) = down e ≤ m * up e * 2 ^ k
 
-pub value-beyond : (y : Float) (s : Bool) (b d k : ℕ) → 0 < d → HasValue y s b d → d ≤ b * 2 ^ k → Beyond k y
-value-beyond nan s b d k D v h = v
-value-beyond (inf t) s b d k D v h = v
-value-beyond (fin t n g) s b d k D v h =
-    le-of-mul-le-mul-right (le-trans (le-of-eq (mul-comm (down g) d)) (le-trans (mul-le-mul-right (down g) h) (le-of-eq (mul-right-comm b (2 ^ k) (down g) ∙ ap (λ (z : ℕ). z * 2 ^ k) (sym (v .1)) ∙ mul-right-comm (n * up g) d (2 ^ k))))) D
-
-pub div-within : (f : Format) (x y : Float) (j k : ℕ) → j + k ≤ emax f → Within j x → Beyond k y → Within (j + k) (div f x y)
+pub div-within : (f : Format) (x y : Float) (j k : ℕ) → j + k ≤ emax f → Within j x → AtLeast k y → Within (j + k) (div f x y)
 unfolding div
 div-within f nan y j k K h l = h
 div-within f (inf s) y j k K h l = absurd h
@@ -258,7 +246,7 @@ root-within f m e k K t M h =
     let j = exponent f m e (w .1) in
     let a = m * 2 ^ j .0 in
     let v : HasValue x false a (2 ^ l) = (refl, j .1) in
-    let g = sqrt-nearest f x a t (mul-pos M (pow-pos (j .0))) v in
+    let g = root-of-units f x a t (mul-pos M (pow-pos (j .0))) v in
     let b = 2 ^ k * 2 ^ l in
     let n : a * 2 ^ l ≤ b * b =
     le-trans

@@ -1,8 +1,20 @@
--- What the functions that `sqrt` is made of ensure, in whole numbers. Definitions only.
+-- Not needed to read a public promise: what the functions that `narrow` and `sqrt` are made of ensure, in bit patterns
+-- and whole numbers. Definitions only.
 use mathlib.Core.Path.{_≡_}
 use Prim.Native.Nat.{ℕ, _+_, _-_, _*_, _/_, _%_, _^_, _≤_, _<_}
-use mathlib.Core.Bool.{cond}
+use mathlib.Core.Bool.{Bool, cond}
 use lib.Dec.{ltb}
+use lib.Ieee.{binary32, binary64, ofBits}
+use Rattle.float.specs.Single.{narrowOf}
+
+-- ---- narrow
+
+-- r is the pattern, without its sign, of the `f64` with the pattern a made an `f32`, whatever the sign
+pub record Narrowed (a r : ℕ) : Type 0 where
+  pub small : r ≤ 0x7f80_0000
+  pub is : (s : Bool) → narrowOf (ofBits binary64 (cond s (2 ^ 63) 0 + a)) ≡ ofBits binary32 (cond s (2 ^ 31) 0 + r)
+
+-- ---- sqrt
 
 -- c is the whole number nearest to the root of p: (2 * c - 1) ^ 2 < 4 * p < (2 * c + 1) ^ 2. (No root is half-way
 -- between two whole numbers.)

@@ -1,4 +1,4 @@
--- What the contracts of `float` cite. `Inner` is not needed to read a public promise.
+-- What the contracts of `float` cite; `Nearest` is what rounding means. `Inner` is not needed to read a public promise.
 pub mod Ops
 pub mod Compare
 pub mod Size
@@ -6,4 +6,5 @@ pub mod Remainder
 pub mod Whole
 pub mod Single
 pub mod Root
+pub mod Nearest
 pub mod Inner

@@ -1,10 +1,9 @@
--- The single operations of IEEE 754 at 64 bits, the f64 nearest to a fraction of whole numbers, and the small
--- literals of the code. Definitions only, and what each literal is.
+-- The single operations of IEEE 754 at 64 bits, the f64 nearest to a fraction of whole numbers, and the small literals
+-- of the code. What rounding means says specs/Nearest.antt. Definitions only.
 use Prim.Native.Nat.{ℕ}
-use mathlib.Core.Path.{_≡_, refl}
-use mathlib.Core.Bool.{false, cond}
+use mathlib.Core.Bool.{false}
 use lib.IntN.{pos}
-use lib.Ieee.{Float, nan, inf, fin, binary64, add, sub, mul, div, neg, lt, isNan, ofInt, ofBits, round}
+use lib.Ieee.{Float, binary64, add, sub, mul, div, ofInt, ofBits, round}
 
 infixl 6 _⊕_
 abbrev pub _⊕_ : Float → Float → Float
@@ -30,7 +29,7 @@ of n = ofInt binary64 (pos n)
 unfoldable pub fraction : ℕ → ℕ → Float
 fraction a c = round binary64 false a c
 
--- A literal of the code is its bit pattern; `literals` says which number each is.
+-- A literal of the code is its bit pattern; `literals` of proofs/Literals.antt says which number each is.
 abbrev pub bits : ℕ → Float
 bits n = ofBits binary64 n
 

@@ -1,9 +1,7 @@
--- Rust's `rem_euclid`. Definitions only, and its edge case.
-use mathlib.Core.Path.{_≡_, refl}
-use mathlib.Core.Bool.{true, cond}
-use lib.IntN.{negsuc}
-use lib.Ieee.{Float, fin, binary64, rem, lt, add, ofBits}
-use Rattle.float.specs.Ops.{_⊕_, zero, one}
+-- Rust's `rem_euclid` (01, part 1). Definitions only.
+use mathlib.Core.Bool.{cond}
+use lib.Ieee.{Float, binary64, rem, lt}
+use Rattle.float.specs.Ops.{_⊕_, zero}
 use Rattle.float.specs.Compare.{absOf}
 
 -- r, plus |b| if r is negative

@@ -14,6 +14,7 @@ pub use root::sqrt;
 pub use single::narrow;
 pub use size::finite;
 pub use size::finite_single;
+pub use whole::TWO_52;
 pub use whole::ceil;
 pub use whole::exact;
 pub use whole::floor;

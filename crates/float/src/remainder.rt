@@ -1,5 +1,6 @@
 // Remainders: `%`, rem_euclid, and rem_euclid by 1.0 with no call of C's fmod.
 use crate::compare::abs;
+use crate::whole::TWO_52;
 ghost use mathlib.Core.Path.{_≡_};
 ghost use lib.Ieee as Ieee;
 ghost use lib.Ieee.{binary64};
@@ -31,14 +32,14 @@ pub fn rem_one(a: f64) -> f64
 {
     if a < 0.0 {
         let m = -a;
-        if m < 4503599627370496.0 {
-            let over = m - ((m + 4503599627370496.0) - 4503599627370496.0);
+        if m < TWO_52 {
+            let over = m - ((m + TWO_52) - TWO_52);
             if over > 0.0 { 1.0 - over } else { -over }
         } else {
             rem_euclid(a, 1.0)
         }
-    } else if a < 4503599627370496.0 {
-        let over = a - ((a + 4503599627370496.0) - 4503599627370496.0);
+    } else if a < TWO_52 {
+        let over = a - ((a + TWO_52) - TWO_52);
         if over < 0.0 { over + 1.0 } else { over }
     } else {
         rem_euclid(a, 1.0)

@@ -1,5 +1,6 @@
 // The square root of an f64, rounded to nearest: the whole-number root of the scaled significand,
 // 27 digits one by one and 26 by one division, and then the rounding.
+use crate::whole::TWO_52;
 ghost use mathlib.Core.Path.{_≡_};
 ghost use mathlib.Core.Bool.{not};
 ghost use Prim.Native.Nat.{_+_, _*_, _^_, _<_, _≤_};
@@ -7,6 +8,9 @@ ghost use lib.Dec.{T};
 ghost use lib.Ieee.{binary64, ofBits, nanBits};
 ghost use Rattle.float.specs.Root.{sqrtOf};
 ghost use Rattle.float.specs.Inner.{NearRoot, Rooted, Scaled, counted};
+
+// 2^53: the numbers from 2^52 up to it are the whole numbers of 53 digits.
+const TWO_53: f64 = 9007199254740992.0;
 
 // The whole part of a root, and the rest: what its square leaves of the number.
 struct WholeRoot {
@@ -43,8 +47,8 @@ fn root_by_digits(h: u64) -> WholeRoot
     WholeRoot { root: q, rest: r }
 }
 
-// The same from a guess at the root, which may be any number: the guess or a neighbour of it is the
-// root, or the digits are made one by one.
+// The same from a guess at the root, which may be any number: the guess or a neighbour of it is the root, or the digits
+// are made one by one.
 fn root_from_guess(h: u64, guess: u64) -> WholeRoot
     requires { ⌜ h < 2 ^ 54 ⌝ }
     ensures { λ o. ⌜ Rooted h (o .root) (o .rest) ⌝ }
@@ -93,8 +97,8 @@ fn guess_root(digits: u64, odd: u64) -> u64
     let y1 = y0 * (1.5 - g * y0 * y0);
     let y2 = y1 * (1.5 - g * y1 * y1);
     let y3 = y2 * (1.5 - g * y2 * y2);
-    let s = f * y3 + 4503599627370495.5;
-    if s < 9007199254740992.0 {
+    let s = f * y3 + (TWO_52 - 0.5);
+    if s < TWO_53 {
         return f64::to_bits(s) % 0x10_0000_0000_0000;
     }
     0
@@ -120,8 +124,7 @@ fn extend_root(root: u64, rest: u64) -> WholeRoot
     }
 }
 
-// The whole number nearest to the root of h with 52 binary zeros after it, from a guess at the root
-// of h.
+// The whole number nearest to the root of h with 52 binary zeros after it, from a guess at the root of h.
 fn nearest_root(h: u64, guess: u64) -> u64
     requires { ⌜ 2 ^ 52 ≤ h ⌝ }
     requires { ⌜ h < 2 ^ 54 ⌝ }

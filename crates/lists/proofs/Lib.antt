@@ -6,10 +6,12 @@
 -- Every     `every-at`, `every-not`, `every-cong`; the halves of an && that is true: `and-left`, `and-right`
 -- Count     `count-cong`, `count-le`, `count-most`, `count-apart`
 -- Those     `those-append`, `those-shorter`; `picked-cong`, `length-picked`
+-- Members   `member-at`, `map-same`; which ones pass a test: `those-are`, `those-others`, `those-same`
 -- Sums      loops that add: `fSum-none`, `fSum-turn`, `fSum-done`, `fSum-cong`; `over-more`
 pub mod Fill
 pub mod Firsts
 pub mod Every
 pub mod Count
 pub mod Those
+pub mod Members
 pub mod Sums

@@ -6,8 +6,7 @@ use mathlib.Core.Bool.{true, false}
 use Rattle.float.specs.Ops.{half, zero, minus-zero, one}
 use Rattle.float.specs.Whole.{roundOf}
 use Rattle.rank.specs.Order.{sorted}
-use Rattle.rank.specs.Percentile.{rankOf, percentileOf}
-use Rattle.rank.specs.declared.Percentile.the-variants.{Value, Nothing}
+use Rattle.rank.specs.Percentile.{rankOf}
 
 -- Rank at p = 0.5: 2 for four values, 2 for five
 pub rank-of-four : rankOf 4 half ≡ 2
@@ -22,11 +21,3 @@ rank-of-five = refl
 pub in-order : sorted (one ∷ nan ∷ zero ∷ inf false ∷ minus-zero ∷ inf true ∷ []) ≡ inf true ∷ minus-zero ∷ zero ∷ one ∷ inf false ∷ nan ∷ []
 unfolding sorted ofBits lt eq isNan
 in-order = refl
-
-pub median : percentileOf (one ∷ nan ∷ zero ∷ minus-zero ∷ []) half ≡ Value one
-unfolding percentileOf toUnsigned roundOf mul ofInt ofBits lt eq isNan
-median = refl
-
-pub no-median : percentileOf [] half ≡ Nothing
-unfolding percentileOf
-no-median = refl

@@ -1,24 +1,21 @@
--- The order of the values is the order of their bit patterns: `precedes-key`, and the key gives its value back,
--- `value-key`. Assumes nothing.
+-- The order of the values is the order of their bit patterns, with the sign apart: `lt-pattern`, `eq-pattern`,
+-- `zero-pattern`. Assumes nothing.
 use mathlib.Core.Path.{_≡_, refl, sym, ap, _∙_, subst}
 use mathlib.Core.Logic.{_⊎_, inl, inr}
 use mathlib.Core.Bool.{Bool, true, false, not, _&&_, _||_, Bool·beq, cond}
 use Prim.Native.Nat.{ℕ, zero, suc, _+_, _-_, _*_, _/_, _%_, _^_, _≤_, _<_, zero-le}
-use native.Mathlib.Nat.{le-of-lt, lt-trans, lt-irrefl, lt-of-not-le, le-of-suc-le-suc, eq-or-lt-of-le, mul-one, mul-comm, mul-assoc, mul-left-comm, add-mul, mul-pos, mul-lt-mul-of-pos-right, two-pow-succ, zero-lt-suc, zero-mul}
-use native.Mathlib.Decide.{decLe, decLt}
+use native.Mathlib.Nat.{le-of-lt, lt-trans, le-of-suc-le-suc, eq-or-lt-of-le, mul-comm, mul-assoc, add-mul, mul-pos, mul-lt-mul-of-pos-right, two-pow-succ, zero-lt-suc, zero-mul}
+use native.Mathlib.Decide.{decLt}
 use native.Mathlib.Omega.{arith}
 use borrow.Author.Tests.{lt-ltb, le-ltb, eq-eqb, ne-eqb}
 use native.Mathlib.Numerals.{add-one}
-use lib.Dec.{T, ltb, eqb, lit<}
+use lib.Dec.{ltb, eqb, lit<}
 use lib.Pow.{pow-pos}
 use lib.IntN.{ℤ}
-use lib.Ieee.{Float, nan, inf, fin, up, down, lt, eq, odd, neg, ofFields, ofBits, below, level, binary64}
+use lib.Ieee.{Float, nan, inf, fin, up, down, lt, eq, below, level}
 use lib.Ieee.Fits.{up-pos, down-pos}
-use lib.Ieee.Exact.{HasValue}
 use Rattle.float.specs.Inner.{counted}
-use Rattle.float.proofs.Value.{counted-value}
-use Rattle.float.proofs.Patterns.{ofBits-fields}
-use Rattle.rank.specs.Order.{minusZero, precedes}
+use Rattle.rank.specs.Order.{minusZero}
 
 -- ---- a function that grows strictly keeps `<` and `=`
 module _ (f : ℕ → ℕ) (grows : (a b : ℕ) → a < b → f a < f b) where

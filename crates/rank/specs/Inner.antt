@@ -1,5 +1,5 @@
--- What the functions that `percentile` is made of ensure: whole numbers in the order of the values, and how many of
--- them lie in a cell. Definitions only.
+-- Not needed to read a public promise: what the functions that `percentile` is made of ensure. Ordinals, whole numbers
+-- in the order of the values, and how many of them lie in a cell. Definitions only.
 use Prim.Native.Nat.{ℕ, zero, suc, _+_, _-_, _*_, _/_, _^_, _≤_, _<_}
 use mathlib.Core.Path.{_≡_}
 use mathlib.Core.Logic.{_⊎_}
@@ -11,37 +11,37 @@ use lib.Ieee.{Float, nan, binary64, isNan, fits, toBits, ofBits}
 use Rattle.rank.specs.Order.{sorted}
 use Rattle.lists.specs.Count.{countTo}
 
--- The key of a bit pattern: from 2^63 up without the sign, and from there down with it. A NaN's is the largest.
-abbrev pub keyBits : ℕ → ℕ
-keyBits b = cond (ltb b (2 ^ 63)) (b + 2 ^ 63) (2 ^ 64 - 1 - b)
+-- The ordinal of a bit pattern: from 2^63 up without the sign, and from there down with it. A NaN's is the largest.
+abbrev pub ordinalBits : ℕ → ℕ
+ordinalBits b = cond (ltb b (2 ^ 63)) (b + 2 ^ 63) (2 ^ 64 - 1 - b)
 
-unfoldable pub keyOf : Float → ℕ
-keyOf x = cond (isNan x) (2 ^ 64 - 1) (keyBits (toBits binary64 x))
+unfoldable pub ordinalOf : Float → ℕ
+ordinalOf x = cond (isNan x) (2 ^ 64 - 1) (ordinalBits (toBits binary64 x))
 
--- the value of a key
+-- the value of an ordinal
 unfoldable pub valueOf : ℕ → Float
 valueOf k = cond (eqb k (2 ^ 64 - 1)) nan (ofBits binary64 (cond (ltb k (2 ^ 63)) (2 ^ 64 - 1 - k) (k - 2 ^ 63)))
 
--- a key that some value has: a NaN's, or one from −∞'s to +∞'s
-abbrev pub Key : ℕ → Type 0
-Key k = (k ≡ 2 ^ 64 - 1) ⊎ ((0x000f_ffff_ffff_ffff ≤ k) × (k ≤ 0xfff0_0000_0000_0000))
+-- an ordinal that some value has: a NaN's, or one from −∞'s to +∞'s
+abbrev pub Ordinal : ℕ → Type 0
+Ordinal k = (k ≡ 2 ^ 64 - 1) ⊎ ((0x000f_ffff_ffff_ffff ≤ k) × (k ≤ 0xfff0_0000_0000_0000))
 
-abbrev pub keyAt : List Float → ℕ → ℕ
-keyAt l i = keyOf (getD l i nan)
+abbrev pub ordinalAt : List Float → ℕ → ℕ
+ordinalAt l i = ordinalOf (getD l i nan)
 
--- Of the first n keys, how many lie in the cell v of width w, from v * w on, and how many below it
+-- Of the first n ordinals, how many lie in the cell v of width w, from v * w on, and how many below it
 unfoldable pub cell : (ℕ → ℕ) → ℕ → ℕ → ℕ → ℕ
 unfolding countTo
-cell key w v n = countTo (λ i. eqb (key i / w) v) n
+cell ordinal w v n = countTo (λ i. eqb (ordinal i / w) v) n
 
 unfoldable pub below : (ℕ → ℕ) → ℕ → ℕ → ℕ → ℕ
 unfolding countTo
-below key w v n = countTo (λ i. ltb (key i / w) v) n
+below ordinal w v n = countTo (λ i. ltb (ordinal i / w) v) n
 
--- a histogram of the first n keys: the m cells of width w that the cell p of width w * m is made of
+-- a histogram of the first n ordinals: the m cells of width w that the cell p of width w * m is made of
 pub record Histogram (l : List Float) (w m p n : ℕ) (hist : List ℕ) : Type 0 where
   pub long : length hist ≡ 2048
-  pub counts : (d : ℕ) → d < m → getD hist d 0 ≡ cell (keyAt l) w (p * m + d) n
+  pub counts : (d : ℕ) → d < m → getD hist d 0 ≡ cell (ordinalAt l) w (p * m + d) n
 
 -- the first d numbers of a list, added up
 unfoldable pub sumTo : List ℕ → ℕ → ℕ
@@ -54,11 +54,12 @@ pub record Passed (l : List ℕ) (rank digit left count : ℕ) : Type 0 where
   pub left-lt : left < count
   pub here : count ≡ getD l digit 0
 
--- one digit more of the key at a rank, and the rank and the count in its cell of width w. p are the digits above it.
-pub record Narrowed (l : List Float) (w m p rank digit left count : ℕ) : Type 0 where
-  pub under : below (keyAt l) w (p * m + digit) (length l) + left ≡ below (keyAt l) (w * m) p (length l) + rank
+-- one digit more of the ordinal at a rank, and the rank and the count in its cell of width w. p are the digits above
+-- it.
+pub record NextDigit (l : List Float) (w m p rank digit left count : ℕ) : Type 0 where
+  pub under : below (ordinalAt l) w (p * m + digit) (length l) + left ≡ below (ordinalAt l) (w * m) p (length l) + rank
   pub inside : left < count
-  pub all : count ≡ cell (keyAt l) w (p * m + digit) (length l)
+  pub all : count ≡ cell (ordinalAt l) w (p * m + digit) (length l)
 
 -- digits of so many bits that cover 64 bits, all but the first of them within these
 pub record Layout (digits bits : ℕ) : Type 0 where
@@ -67,16 +68,16 @@ pub record Layout (digits bits : ℕ) : Type 0 where
   pub first : digits * bits < 64 + bits
 
 -- the rank lies in the cell v of width w, and is `left` counted from the cell's first
-pub record Within (l : List Float) (w rank v left : ℕ) : Type 0 where
-  pub under : below (keyAt l) w v (length l) + left ≡ rank
-  pub inside : left < cell (keyAt l) w v (length l)
+pub record RankIn (l : List Float) (w rank v left : ℕ) : Type 0 where
+  pub under : below (ordinalAt l) w v (length l) + left ≡ rank
+  pub inside : left < cell (ordinalAt l) w v (length l)
 
--- one of the keys, and it lies in the cell v of width w
-pub record Found (l : List Float) (w v k : ℕ) : Type 0 where
-  pub one : 0 < cell (keyAt l) 1 k (length l)
+-- one of the ordinals, and it lies in the cell v of width w
+pub record OrdinalIn (l : List Float) (w v k : ℕ) : Type 0 where
+  pub one : 0 < cell (ordinalAt l) 1 k (length l)
   pub inside : k / w ≡ v
 
--- the key of the value at a rank, and that value is an f64
+-- the ordinal of the value at a rank, and that value is an f64
 pub record Selected (l : List Float) (rank k : ℕ) : Type 0 where
-  pub same : k ≡ keyOf (getD (sorted l) rank nan)
+  pub same : k ≡ ordinalOf (getD (sorted l) rank nan)
   pub held : T (fits binary64 (getD (sorted l) rank nan))

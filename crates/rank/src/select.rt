@@ -1,36 +1,36 @@
-// The percentile of a list, without sorting it and without moving anything: every value has a key, a
-// whole number of 64 bits, and the keys are in `total_cmp` order. The key at a rank is found from its
-// highest digit down, each digit by one pass that counts.
+// The percentile of a list, without sorting it and without moving anything: every value has an ordinal, a whole
+// number of 64 bits, and the ordinals are in `total_cmp` order. The ordinal at a rank is found from its highest digit
+// down, each digit by one pass that counts.
 use crate::Percentile;
 ghost use mathlib.Core.Path.{_≡_};
 ghost use Prim.Native.Nat.{_+_, _*_, _%_, _^_, _<_, _≤_};
-ghost use lib.ListN.{length, getD};
+ghost use lib.ListN.{length};
 ghost use Rattle.rank.specs.Percentile.{rankOf, percentileOf};
 ghost use Rattle.rank.specs.Inner.{
-  keyOf,
+  ordinalOf,
   valueOf,
-  Key,
-  keyAt,
+  Ordinal,
+  ordinalAt,
   cell,
   Histogram,
   sumTo,
   Passed,
-  Narrowed,
+  NextDigit,
   Layout,
-  Found,
+  OrdinalIn,
   Selected,
 };
 
-// A digit of the key at a rank, the rank among the values with this digit, and how many they are.
+// A digit of the ordinal at a rank, the rank among the values with this digit, and how many they are.
 struct Place {
     digit: u64,
     left: u64,
     count: u64,
 }
 
-// A value's key: its bit pattern, counted up from the middle without a sign and down with one.
-fn key(x: f64) -> u64
-    ensures { λ r. ⌜ r ≡ keyOf x ⌝ }
+// A value's ordinal: its bit pattern, counted up from the middle without a sign and down with one.
+fn ordinal(x: f64) -> u64
+    ensures { λ r. ⌜ r ≡ ordinalOf x ⌝ }
 {
     if x != x {
         return 0xffff_ffff_ffff_ffff;
@@ -43,9 +43,9 @@ fn key(x: f64) -> u64
     }
 }
 
-// The value that has the key k.
+// The value that has the ordinal k.
 fn value(k: u64) -> f64
-    requires { ⌜ Key k ⌝ }
+    requires { ⌜ Ordinal k ⌝ }
     ensures { λ r. ⌜ r ≡ valueOf k ⌝ }
 {
     if k == 0xffff_ffff_ffff_ffff {
@@ -66,7 +66,7 @@ fn digit(h: u64, b: u64) -> usize
     (h - ((h >> b) << b)) as usize
 }
 
-// How often each digit of b bits, from bit s on, comes among the values whose key begins with p.
+// How often each digit of b bits, from bit s on, comes among the values whose ordinal begins with p.
 fn tally(v: &[f64], s: u64, b: u64, p: u64, hist: &mut [u32; 2048])
     requires { ⌜ length (now v) ≤ 2097152 ⌝ }
     requires { ⌜ s < 64 ⌝ }
@@ -75,7 +75,7 @@ fn tally(v: &[f64], s: u64, b: u64, p: u64, hist: &mut [u32; 2048])
     ensures { λ _. ⌜ Histogram (now (v .entry)) (2 ^ s) (2 ^ b) p (length (now (v .entry))) (now (hist .exit)) ⌝ }
 {
     for i in 0..v.len() {
-        let h = key(v[i]) >> s;
+        let h = ordinal(v[i]) >> s;
         let d = digit(h, b);
         let m = (h >> b == p) as u32;
         hist[d] = hist[d] + m;
@@ -114,28 +114,28 @@ fn walk(hist: &[u32; 2048], rank: u64) -> Place
     }
 }
 
-// One digit of the key at a rank: p are the digits above it, and the rank counts from the first of
+// One digit of the ordinal at a rank: p are the digits above it, and the rank counts from the first of
 // the values that begin with them.
 fn pass(v: &[f64], s: u64, b: u64, p: u64, rank: u64) -> Place
     requires { ⌜ length (now v) ≤ 2097152 ⌝ }
     requires { ⌜ s < 64 ⌝ }
     requires { ⌜ b ≤ 11 ⌝ }
-    requires { ⌜ rank < cell (keyAt (now v)) (2 ^ s * 2 ^ b) p (length (now v)) ⌝ }
-    ensures { λ r. ⌜ Narrowed (now (v .entry)) (2 ^ s) (2 ^ b) p rank (r .digit) (r .left) (r .count) ⌝ }
+    requires { ⌜ rank < cell (ordinalAt (now v)) (2 ^ s * 2 ^ b) p (length (now v)) ⌝ }
+    ensures { λ r. ⌜ NextDigit (now (v .entry)) (2 ^ s) (2 ^ b) p rank (r .digit) (r .left) (r .count) ⌝ }
 {
     let mut hist = [0u32; 2048];
     tally(v, s, b, p, &mut hist);
     walk(&hist, rank)
 }
 
-// The key that begins with p, where only one does.
+// The ordinal that begins with p, where only one does.
 fn find(v: &[f64], s: u64, p: u64) -> u64
     requires { ⌜ s < 64 ⌝ }
-    requires { ⌜ 0 < cell (keyAt (now v)) (2 ^ s) p (length (now v)) ⌝ }
-    ensures { λ r. ⌜ Found (now (v .entry)) (2 ^ s) p r ⌝ }
+    requires { ⌜ 0 < cell (ordinalAt (now v)) (2 ^ s) p (length (now v)) ⌝ }
+    ensures { λ r. ⌜ OrdinalIn (now (v .entry)) (2 ^ s) p r ⌝ }
 {
     for i in 0..v.len() {
-        let k = key(v[i]);
+        let k = ordinal(v[i]);
         if k >> s == p {
             return k;
         }
@@ -143,7 +143,7 @@ fn find(v: &[f64], s: u64, p: u64) -> u64
     0
 }
 
-// The key at a rank, in so many digits of so many bits, which are 64 bits or more in all. Most lists
+// The ordinal at a rank, in so many digits of so many bits, which are 64 bits or more in all. Most lists
 // do not need all of them: where only one value begins with the digits so far, it is the one.
 fn by_digits(v: &[f64], rank: u64, digits: u64, bits: u64) -> u64
     requires { ⌜ length (now v) ≤ 2097152 ⌝ }
@@ -167,7 +167,7 @@ fn by_digits(v: &[f64], rank: u64, digits: u64, bits: u64) -> u64
     k
 }
 
-// The key at a rank. For a short list the histogram costs more than the pass, so its digits are short.
+// The ordinal at a rank. For a short list the histogram costs more than the pass, so its digits are short.
 fn select(v: &[f64], rank: u64) -> u64
     requires { ⌜ length (now v) ≤ 2097152 ⌝ }
     requires { ⌜ rank < length (now v) ⌝ }

@@ -23,7 +23,8 @@ use Rattle.float.specs.Size.{finiteF}
 use Rattle.row.specs.Samples.{Iq}
 use Rattle.row.specs.Window.{stepOf, blocks}
 use Rattle.row.specs.Blocks.{rotorOf, derot, meanFrom, blockMean}
-use Rattle.row.specs.Envelope.{movedBy, runOf, amplitude, rowOf, rowLength}
+use Rattle.row.specs.Envelope.{runOf, amplitude, rowOf, rowLength}
+use Rattle.row.specs.Inner.{movedBy}
 use Rattle.row.proofs.Finite.{finite-at}
 use Rattle.row.proofs.Means.{blocks-short, block-fits}
 use Rattle.row.proofs.Steps.{step-low}

@@ -2,13 +2,11 @@
 use Prim.Native.Nat.{ℕ, _+_, _<_, _≤_}
 use native.Mathlib.Numerals.{add-one}
 use native.Mathlib.Omega.{arith}
-use mathlib.Core.Path.{_≡_, refl, sym, _∙_}
-use mathlib.Core.Bool.{Bool, true, false, not, _&&_, false≢true, and-false, and-true}
+use mathlib.Core.Path.{_≡_, refl}
+use mathlib.Core.Bool.{Bool, true, false, and-false, and-true}
 use mathlib.Core.List.{List}
-use lib.Dec.{T}
 use lib.ListN.{length, getD}
-use lib.Ieee.{Float, nan, inf, fin, isNan, lt}
-use Rattle.lists.specs.Every.{every}
+use lib.Ieee.{Float, nan}
 use Rattle.lists.proofs.Every.{every-at}
 use Rattle.float.specs.Size.{finiteF}
 use Rattle.row.specs.Samples.{finiteTo, allFinite}

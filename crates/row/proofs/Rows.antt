@@ -1,13 +1,11 @@
 -- The row of amplitudes in the work slice: it is that of the block means stored before it, read by its index or as a
 -- list.
-use Prim.Native.Nat.{ℕ, zero, suc, _+_, _-_, _*_, _/_, _≤_, _<_}
-use native.Mathlib.Nat.{not-suc-le-zero, eq-or-lt-of-le, le-of-suc-le-suc, div-lt-iff-lt-mul, le-div-iff-mul-le}
+use Prim.Native.Nat.{ℕ, _+_, _-_, _*_, _/_, _≤_, _<_}
+use native.Mathlib.Nat.{div-lt-iff-lt-mul, le-div-iff-mul-le}
 use native.Mathlib.Omega.{arith}
-use mathlib.Core.Path.{_≡_, refl, sym, ap, _∙_}
-use mathlib.Core.Logic.{⊎-elim}
-use mathlib.Core.List.{List, [], _∷_, _++_}
-use lib.ListN.{length, getD, take, drop, length-append, length-drop, List·getD-append}
-use lib.Seq.{length-take-le, getD-at, getD-take, getD-drop, ext-getD}
+use mathlib.Core.Path.{_≡_, refl, ap}
+use mathlib.Core.List.{List}
+use lib.ListN.{length, take, drop}
 use lib.Ieee.{Float, nan}
 use Rattle.float.specs.Ops.{_⊘_, eight}
 use Rattle.complex.specs.declared.value.Complex.{Complex}
@@ -15,14 +13,13 @@ use Rattle.complex.specs.Value.{cNorm, cDiv}
 use Rattle.complex.specs.Rows.{zAt, zFill}
 use Rattle.complex.proofs.RowLaws.{zAt-zFill, length-zFill}
 use Rattle.lists.specs.Fill.{fill}
-use Rattle.lists.proofs.Fill.{fill-cong, getD-fill, length-fill}
-use Rattle.row.specs.Window.{stepOf, windowOf, samples, blocks, stepBlocks}
+use Rattle.lists.proofs.Fill.{fill-cong}
+use Rattle.row.specs.Window.{stepOf, windowOf, samples, stepBlocks}
 use Rattle.row.specs.Blocks.{blockMean}
-use Rattle.row.specs.Envelope.{amplitude, runOf, rowOf, rowLength}
+use Rattle.row.specs.Envelope.{amplitude, rowOf, rowLength}
 use Rattle.lists.specs.Firsts.{firsts}
 use Rattle.row.proofs.Running.{run-cong}
 use Rattle.row.proofs.Steps.{step-low}
-use Rattle.lists.specs.Firsts.{firsts}
 use Rattle.lists.proofs.Fill.{part-fill}
 
 -- ---- the row of the block means
@@ -42,9 +39,6 @@ module _ (w end : List Float) (z : ℕ → Complex) (b : ℕ) (e : end ≡ fill 
 
   pub row-part : take (b - 7) (drop (2 * b) end) ≡ firsts (amplitude z) (b - 7)
   row-part = rw e (part-fill (zFill w 0 z b) (2 * b) (amplitude z) (b - 7) nan room)
-
-  pub row-at : (i : ℕ) → i < b - 7 → getD end (2 * b + i) nan ≡ amplitude z i
-  row-at i h = rw e (getD-fill (zFill w 0 z b) (2 * b) (amplitude z) (b - 7) i nan h room)
 
 -- at a rate and a carrier
 pub row-is : (iq : List Float) (fs carrier : Float) → amplitude (blockMean iq (carrier ⊘ fs) (stepOf fs)) ≡ rowOf iq fs carrier

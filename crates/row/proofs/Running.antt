@@ -2,7 +2,7 @@
 use Prim.Native.Nat.{ℕ, zero, suc, _+_, _-_, _*_, _<_, _≤_}
 use native.Mathlib.Numerals.{add-one}
 use native.Mathlib.Omega.{arith}
-use mathlib.Core.Path.{_≡_, refl, _∙_}
+use mathlib.Core.Path.{_≡_}
 use mathlib.Core.List.{List}
 use lib.ListN.{set}
 use lib.Ieee.{Float}
@@ -13,7 +13,8 @@ use Rattle.complex.specs.Rows.{zAt, cSum}
 use Rattle.complex.proofs.RowLaws.{cSum-cong, zAt-fill-below}
 use Rattle.lists.specs.Fill.{fill}
 use Rattle.lists.proofs.Fill.{fill-turn}
-use Rattle.row.specs.Envelope.{movedBy, runOf, amplitude}
+use Rattle.row.specs.Envelope.{runOf, amplitude}
+use Rattle.row.specs.Inner.{movedBy}
 
 pub run-none : (z : ℕ → Complex) (run : Complex) → run ≡ cSum z 0 8 → run ≡ runOf z 0
 unfolding runOf

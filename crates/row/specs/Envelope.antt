@@ -1,7 +1,7 @@
 -- The amplitude row (01, part 2): B − 7 amplitudes, by the Rust's running sum from left to right; none if n < window.
 -- Definitions only.
 use Prim.Native.Nat.{ℕ, zero, suc, _+_, _-_}
-use mathlib.Core.List.{List, [], _∷_, _++_}
+use mathlib.Core.List.{List}
 use lib.Ieee.{Float}
 use Rattle.float.specs.Ops.{_⊘_, eight}
 use Rattle.complex.specs.declared.value.Complex.{Complex}
@@ -10,15 +10,12 @@ use Rattle.complex.specs.Rows.{cSum}
 use Rattle.row.specs.Window.{stepOf, stepBlocks}
 use Rattle.row.specs.Blocks.{blockMean}
 
--- what comes in is added, less what goes out
-abbrev pub movedBy : (ℕ → Complex) → ℕ → Complex → Complex
-movedBy z i run = cAdd run (cSub (z (8 + i)) (z i))
-
--- the running sum of eight neighbours
+-- the running sum of eight neighbours: what comes in is added, less what goes out
 unfoldable pub runOf : (ℕ → Complex) → ℕ → Complex
 runOf z zero = cSum z 0 8
-runOf z (suc i) = movedBy z i (runOf z i)
+runOf z (suc i) = cAdd (runOf z i) (cSub (z (8 + i)) (z i))
 
+-- the size of its mean
 abbrev pub amplitude : (ℕ → Complex) → ℕ → Float
 amplitude z i = cNorm (cDiv (runOf z i) eight)
 

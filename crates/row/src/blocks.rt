@@ -3,7 +3,7 @@ use crate::samples::at;
 use complex::Complex;
 use trig::TAU;
 ghost use mathlib.Core.Path.{_≡_};
-ghost use Prim.Native.Nat.{_+_, _*_, _<_, _≤_};
+ghost use Prim.Native.Nat.{_+_, _*_, _^_, _<_, _≤_};
 ghost use lib.ListN.{length};
 ghost use Rattle.trig.specs.Sine.{sineTable};
 ghost use Rattle.complex.specs.Rows.{zFill};
@@ -13,7 +13,7 @@ ghost use Rattle.row.specs.Blocks.{rotorOf, derot, meanFrom, blockMean};
 
 // Rust: rotor. The sine table is lent, so that it is made once and not at each call.
 pub fn rotor(cyc: f64, k: usize, sine: &[u64; 1025]) -> Complex
-    requires { ⌜ k ≤ 9007199254740992 ⌝ }
+    requires { ⌜ k ≤ 2 ^ 53 ⌝ }
     requires { ⌜ now sine ≡ sineTable ⌝ }
     ensures { λ r. ⌜ r ≡ rotorOf cyc k ⌝ }
 {

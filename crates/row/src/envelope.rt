@@ -4,37 +4,23 @@ use complex::Complex;
 ghost use mathlib.Core.Path.{_≡_};
 ghost use Prim.Native.Nat.{_+_, _-_, _*_, _<_, _≤_};
 ghost use lib.ListN.{length};
-ghost use Rattle.complex.specs.Rows.{zAt, cSum, zFill};
+ghost use Rattle.complex.specs.Rows.{zAt, zFill};
 ghost use Rattle.lists.specs.Fill.{fill};
 ghost use Rattle.trig.specs.Sine.{sineTable};
 ghost use Rattle.row.specs.Window.{blocks};
 ghost use Rattle.row.specs.Samples.{Iq};
 ghost use Rattle.row.specs.Blocks.{blockMean};
-ghost use Rattle.row.specs.Envelope.{movedBy, amplitude};
-
-// The sum of the n complex numbers of `row` from number a.
-fn total(row: &[f64], a: usize, n: usize) -> Complex
-    requires { ⌜ 2 * (a + n) ≤ length (now row) ⌝ }
-    ensures { λ r. ⌜ r ≡ cSum (zAt (now (row .entry))) a n ⌝ }
-{
-    let mut acc = Complex::ZERO;
-    for j in 0..n {
-        acc = acc.add(complex::get(row, a + j));
-    }
-    acc
-}
+ghost use Rattle.row.specs.Envelope.{amplitude};
+ghost use Rattle.row.specs.Inner.{movedBy};
 
 // The running sum one further: what comes in, less what goes out.
 fn moved(run: Complex, row: &[f64], i: usize) -> Complex
     requires { ⌜ 2 * (8 + i) + 1 < length (now row) ⌝ }
     ensures { λ r. ⌜ r ≡ movedBy (zAt (now (row .entry))) i run ⌝ }
 {
-    let a = 2 * (8 + i);
-    let b = 2 * i;
-    Complex {
-        re: run.re + (row[a] - row[b]),
-        im: run.im + (row[a + 1] - row[b + 1]),
-    }
+    let comes = complex::get(row, 8 + i);
+    let goes = complex::get(row, i);
+    run.add(comes.sub(goes))
 }
 
 // Past the b complex numbers that `work` starts with go the b - 7 amplitudes.
@@ -46,7 +32,7 @@ fn running(work: &mut [f64], b: usize)
 {
     let o = 2 * b;
     let n = b - 8;
-    let mut run = total(work, 0, 8);
+    let mut run = complex::sum(work, 0, 8);
     for i in 0..n {
         let next = moved(run, work, i);
         work[o + i] = run.div_real(8.0).norm();

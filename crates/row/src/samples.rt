@@ -3,7 +3,6 @@ ghost use mathlib.Core.Path.{_≡_};
 ghost use Prim.Native.Nat.{_<_};
 ghost use lib.ListN.{length, getD};
 ghost use lib.Ieee.{nan};
-ghost use Rattle.float.specs.Size.{finiteF};
 ghost use Rattle.row.specs.Samples.{allFinite, Iq};
 
 // Question 3. No early way out: without one the loop takes many samples a turn.

@@ -33,8 +33,8 @@ turns : of 2048 ⊘ PI ≡ fin false 5734161139222659 (negsuc 42)
 unfolding PI div ofInt
 turns = refl
 
-turns-value : HasValue (of 2048 ⊘ PI) false 5734161139222659 8796093022208
-turns-value = subst (λ (z : Float). HasValue z false 5734161139222659 8796093022208) (sym turns) (refl, refl)
+turns-value : HasValue (of 2048 ⊘ PI) false 5734161139222659 0x800_0000_0000
+turns-value = subst (λ (z : Float). HasValue z false 5734161139222659 0x800_0000_0000) (sym turns) (refl, refl)
 
 angle : PI ⊘ of 2048 ≡ fin false 884279719003555 (negsuc 58)
 unfolding PI div ofInt
@@ -44,7 +44,7 @@ angle-value : HasValue (PI ⊘ of 2048) false 884279719003555 (2 ^ 59)
 angle-value = subst (λ (z : Float). HasValue z false 884279719003555 (2 ^ 59)) (sym angle) (refl, refl)
 
 -- ---- x and x × (2048/π), of one sign
-pub record Near (x : Float) : Type 0 where
+pub record Turned (x : Float) : Type 0 where
   pub sign : Bool
   pub m : ℕ
   pub e : ℤ
@@ -68,17 +68,17 @@ no-infinity : T (le (inf false) (round binary64 false 8191 1)) → ⊥
 unfolding le round
 no-infinity t = t
 
-near-fin : (s : Bool) (m : ℕ) (e : ℤ) → T (le (fin false m e) (of 7)) → Near (fin s m e)
-near-fin s m e h =
+turned-fin : (s : Bool) (m : ℕ) (e : ℤ) → T (le (fin false m e) (of 7)) → Turned (fin s m e)
+turned-fin s m e h =
     let a = m * up e in
     let c = down e in
     let l : a * 1 ≤ 7 * c = le→value (fin false m e) (of 7) a c 7 1 (down-pos e) (lit< tt) (refl, refl) seven-value h in
-    let is : scaled (fin s m e) ≡ round binary64 s (a * 5734161139222659) (c * 8796093022208) =
-    mul-over binary64 (fin s m e) (of 2048 ⊘ PI) s false a c 5734161139222659 8796093022208 (down-pos e) (lit< tt) (refl, refl) turns-value
-    ∙ ap (λ (z : Bool). round binary64 z (a * 5734161139222659) (c * 8796093022208)) (like s) in
-    let b : T (le (round binary64 false (a * 5734161139222659) (c * 8796093022208)) (round binary64 false 8191 1)) =
-    round-mono binary64 (a * 5734161139222659) (c * 8796093022208) 8191 1 (mul-pos (down-pos e) (lit< tt)) (lit< tt) (omega arith) in
-    elim (shape binary64 (a * 5734161139222659) (c * 8796093022208)) [
+    let is : scaled (fin s m e) ≡ round binary64 s (a * 5734161139222659) (c * 0x800_0000_0000) =
+    mul-over binary64 (fin s m e) (of 2048 ⊘ PI) s false a c 5734161139222659 0x800_0000_0000 (down-pos e) (lit< tt) (refl, refl) turns-value
+    ∙ ap (λ (z : Bool). round binary64 z (a * 5734161139222659) (c * 0x800_0000_0000)) (like s) in
+    let b : T (le (round binary64 false (a * 5734161139222659) (c * 0x800_0000_0000)) (round binary64 false 8191 1)) =
+    round-mono binary64 (a * 5734161139222659) (c * 0x800_0000_0000) 8191 1 (mul-pos (down-pos e) (lit< tt)) (lit< tt) (omega arith) in
+    elim (shape binary64 (a * 5734161139222659) (c * 0x800_0000_0000)) [
       | inl w ↦ record {
         sign = s;
         m = m;
@@ -97,11 +97,11 @@ near-fin s m e h =
         let k : n * up g * 1 ≤ 8191 * down g = le→value (fin false n g) (round binary64 false 8191 1) (n * up g) (down g) 8191 1 (down-pos g) (lit< tt) (refl, refl) top-value t in
         omega arith
 
-pub near : (x : Float) → le (absOf x) (of 7) ≡ true → Near x
+pub turned-by : (x : Float) → le (absOf x) (of 7) ≡ true → Turned x
 unfolding absOf le ofInt
-near nan h = absurd (yes h)
-near (inf s) h = absurd (yes h)
-near (fin s m e) h = near-fin s m e (yes h)
+turned-by nan h = absurd (yes h)
+turned-by (inf s) h = absurd (yes h)
+turned-by (fin s m e) h = turned-fin s m e (yes h)
 
 -- ---- x - i × (π/2048), as x + (mark - (i + mark)) × (π/2048)
 zero-is : (u : Bool) → round binary64 u 0 1 ≡ fin u 0 (pos 0)
@@ -133,9 +133,9 @@ minus-is s n p q Q k h v =
     ap neg (mul-over binary64 (round binary64 s n 1) k s false n 1 p q (lit< tt) Q (round-whole binary64 s n (omega arith)) v ∙ ap (λ (z : Bool). round binary64 z (n * p) (1 * q)) (like s))
     ∙ neg-round binary64 s (n * p) (1 * q)
 
-step-is : (s : Bool) (n p q : ℕ) → 0 < q → (k : Float) → n ≤ 8192 → HasValue k false p q → (mark ⊖ (round binary64 s n 1 ⊕ mark)) ⊗ k ≡ round binary64 (ltb 6755399441055744 (sumOf s n 1)) (n * p) (1 * q)
+step-is : (s : Bool) (n p q : ℕ) → 0 < q → (k : Float) → n ≤ 8192 → HasValue k false p q → (mark ⊖ (round binary64 s n 1 ⊕ mark)) ⊗ k ≡ round binary64 (ltb 0x18_0000_0000_0000 (sumOf s n 1)) (n * p) (1 * q)
 step-is s n p q Q k h v =
-    let t = ltb 6755399441055744 (sumOf s n 1) in
+    let t = ltb 0x18_0000_0000_0000 (sumOf s n 1) in
     ap (λ (z : Float). z ⊗ k) (less (round binary64 s n 1 ⊕ mark) (sumOf s n 1) (whole-plus s n h .1) ∙ ap (λ (z : ℕ). round binary64 t z 1) (gap-is s n h))
     ∙ mul-over binary64 (round binary64 t n 1) k t false n 1 p q (lit< tt) Q (round-whole binary64 t n (omega arith)) v
     ∙ ap (λ (z : Bool). round binary64 z (n * p) (1 * q)) (like t)
@@ -147,11 +147,11 @@ rest-open x y = refl
 left : (s : Bool) (m : ℕ) (e : ℤ) (n p q : ℕ) → 0 < q → (k : Float) → n ≤ 8192 → HasValue k false p q → fin s m e ⊕ (mark ⊖ (round binary64 s n 1 ⊕ mark)) ⊗ k ≡ fin s m e ⊖ round binary64 s n 1 ⊗ k
 left true m e n p q Q k h v =
     ap (λ (z : Float). fin true m e ⊕ z)
-    (step-is true n p q Q k h v ∙ ap (λ (z : Bool). round binary64 z (n * p) (1 * q)) (le-ltb 6755399441055744 (sumOf true n 1) (omega arith)) ∙ sym (minus-is true n p q Q k h v))
+    (step-is true n p q Q k h v ∙ ap (λ (z : Bool). round binary64 z (n * p) (1 * q)) (le-ltb 0x18_0000_0000_0000 (sumOf true n 1) (omega arith)) ∙ sym (minus-is true n p q Q k h v))
     ∙ sym (rest-open (fin true m e) (round binary64 true n 1 ⊗ k))
 left false m e (suc n) p q Q k h v =
     ap (λ (z : Float). fin false m e ⊕ z)
-    (step-is false (suc n) p q Q k h v ∙ ap (λ (z : Bool). round binary64 z (suc n * p) (1 * q)) (lt-ltb 6755399441055744 (sumOf false (suc n) 1) (omega arith)) ∙ sym (minus-is false (suc n) p q Q k h v))
+    (step-is false (suc n) p q Q k h v ∙ ap (λ (z : Bool). round binary64 z (suc n * p) (1 * q)) (lt-ltb 0x18_0000_0000_0000 (sumOf false (suc n) 1) (omega arith)) ∙ sym (minus-is false (suc n) p q Q k h v))
     ∙ sym (rest-open (fin false m e) (round binary64 false (suc n) 1 ⊗ k))
 left false m e zero p q Q k h v =
     let r : 0 < 1 * q = mul-pos (lit< tt) Q in
@@ -167,7 +167,7 @@ placed-is s n g = refl
 
 pub rest-is : (x w : Float) → le (absOf x) (of 7) ≡ true → w ≡ placed x ⊕ mark → x ⊕ (mark ⊖ w) ⊗ (PI ⊘ of 2048) ≡ restOf x
 rest-is x w h q =
-    let r = near x h in
+    let r = turned-by x h in
     let n = halfUp (r .n * up (r .g)) (down (r .g)) in
     let i : placed x ≡ round binary64 (r .sign) n 1 = ap roundOf (r .turned) ∙ placed-is (r .sign) (r .n) (r .g) in
     let k = PI ⊘ of 2048 in
@@ -180,7 +180,7 @@ rest-is x w h q =
 
 pub place-is : (x w : Float) → le (absOf x) (of 7) ≡ true → w ≡ placed x ⊕ mark → toBits binary64 w % 4096 ≡ within (indexOf x)
 place-is x w h q =
-    let r = near x h in
+    let r = turned-by x h in
     let n = halfUp (r .n * up (r .g)) (down (r .g)) in
     let i : placed x ≡ round binary64 (r .sign) n 1 = ap roundOf (r .turned) ∙ placed-is (r .sign) (r .n) (r .g) in
     let l : n ≤ 8192 = half-small (r .n * up (r .g)) (down (r .g)) (down-pos (r .g)) (r .bound) in
@@ -192,7 +192,7 @@ place-is x w h q =
 
 pub place-number : (x w : Float) → le (absOf x) (of 7) ≡ true → w ≡ placed x ⊕ mark → T (not (isNan w))
 place-number x w h q =
-    let r = near x h in
+    let r = turned-by x h in
     let n = halfUp (r .n * up (r .g)) (down (r .g)) in
     let i : placed x ≡ round binary64 (r .sign) n 1 = ap roundOf (r .turned) ∙ placed-is (r .sign) (r .n) (r .g) in
     let l : n ≤ 8192 = half-small (r .n * up (r .g)) (down (r .g)) (down-pos (r .g)) (r .bound) in
@@ -202,6 +202,6 @@ place-number x w h q =
 pub scaled-small : (x : Float) → le (absOf x) (of 7) ≡ true → le (absOf (scaled x)) (of 8191) ≡ true
 unfolding absOf ofInt
 scaled-small x h =
-    let r = near x h in
+    let r = turned-by x h in
     ap (λ (z : Float). le (absOf z) (of 8191)) (r .turned)
     ∙ is-true (le (fin false (r .n) (r .g)) (of 8191)) (le-of-values (fin false (r .n) (r .g)) (of 8191) (r .n * up (r .g)) (down (r .g)) 8191 1 (down-pos (r .g)) (lit< tt) (refl, refl) top-value (omega (arith, r .bound)))

@@ -1,14 +1,14 @@
 -- The logarithm's m and e are those that the code reads off a bit pattern, of a normal number its own and of a
 -- smaller one that of 2^54 times it. Assumes nothing.
 use mathlib.Core.Path.{_≡_, refl, sym, ap, _∙_, subst}
-use Prim.Native.Nat.{ℕ, zero, suc, _+_, _-_, _*_, _/_, _%_, _^_, _≤_, _<_, zero-le}
+use Prim.Native.Nat.{ℕ, zero, suc, _+_, _-_, _*_, _^_, _≤_, _<_, zero-le}
 use native.Mathlib.Nat.{le-trans, le-of-eq, lt-of-lt-of-le, lt-of-le-of-lt, zero-lt-suc, mul-pos, mul-one, mul-assoc, mul-le-mul-right, mul-lt-mul-of-pos-right, le-of-mul-le-mul-right, lt-of-mul-lt-mul-right}
 use native.Mathlib.Omega.{arith}
 use mathlib.Core.Bool.{Bool, true, false, not}
 use lib.IntN.{ℤ, pos, negsuc, _+ℤ_}
 use lib.Dec.{T, eqb, eqb→eq, T-not, lit<, lit≤}
 use lib.Pow.{pow-add, pow-pos}
-use lib.Ieee.{Float, nan, inf, fin, binary64, up, down, minus, round, lt, eq, fits, isNan, ofInt, ofBits, toBits}
+use lib.Ieee.{Float, nan, inf, fin, binary64, up, down, minus, round, lt, eq, fits, isNan, ofInt, toBits}
 use lib.Ieee.Digits.{minus-val}
 use lib.Ieee.Fits.{mul-fits, up-pos, down-pos, and-l}
 use lib.Ieee.Bits.{toBits-lt}
@@ -16,17 +16,11 @@ use lib.Ieee.Exact.{HasValue, round-exact}
 use Rattle.float.specs.Ops.{of, _⊖_, _⊗_}
 use Rattle.float.proofs.Exactly.{fits-says, zero-exp}
 use Rattle.float.proofs.Compared.{lt→cross, nlt→cross, cross→lt}
+use Rattle.trig.specs.Inner.{digitsOf, fieldOf}
 use Rattle.trig.specs.Logarithm.{octave, mantissaOf, exponentOf, logOf, log10Of}
 use Rattle.float.proofs.Sums.{mul-over}
 use Rattle.trig.proofs.Fractions.{value-no-nan}
 use Rattle.trig.proofs.Octaves.{minus-same, minus-plus, whole-less, offset, mantissa-is, exponent-is, fields, by-bits}
-
--- what the code reads off a pattern b
-abbrev pub digitsOf : ℕ → Float
-digitsOf b = ofBits binary64 ((1023 - b % 4503599627370496 / 2251799813685248) * 4503599627370496 + b % 4503599627370496)
-
-abbrev pub fieldOf : ℕ → ℕ
-fieldOf b = b / 4503599627370496 + b % 4503599627370496 / 2251799813685248
 
 abbrev tiny : Float
 tiny = fin false 1 (negsuc 1021)
@@ -41,7 +35,7 @@ parts n p x K z few e l f h v =
     let b = toBits binary64 z in
     let k = octave (suc n) in
     let w = by-bits n (x + K) b (fields z (suc n) (x + K) few h v) in
-    let low : b < 18446744073709551616 = toBits-lt binary64 z f in
+    let low : b < 0x1_0000_0000_0000_0000 = toBits-lt binary64 z f in
     ap (λ (m : Float). logOf m (of (fieldOf b) ⊖ of (1023 + K))) (sym (w .mantissa) ∙ sym (mantissa-is false (suc n) p))
     ∙ ap (logOf (mantissaOf (fin false (suc n) p)))
     (whole-less (fieldOf b) (1023 + K) (omega arith) (omega arith)

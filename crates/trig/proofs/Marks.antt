@@ -29,10 +29,10 @@ use Rattle.trig.proofs.Patterns.{pattern-is}
 use Rattle.trig.proofs.Fractions.{shape, under}
 
 abbrev pub mark : Float
-mark = of 6755399441055744
+mark = of 0x18_0000_0000_0000
 
-mark-value : HasValue mark false 6755399441055744 1
-mark-value = whole-value binary64 6755399441055744 (lit≤ tt)
+mark-value : HasValue mark false 0x18_0000_0000_0000 1
+mark-value = whole-value binary64 0x18_0000_0000_0000 (lit≤ tt)
 
 -- a whole number over any denominator
 over : (x : Float) (s : Bool) (n c : ℕ) → HasValue x s n 1 → HasValue x s (n * c) c
@@ -57,16 +57,16 @@ apart false a b c = sized false a b c (ltb a b) (ltb→lt a b) (nltb→le a b)
 
 -- ---- y + mark
 abbrev pub sumOf : Bool → ℕ → ℕ → ℕ
-sumOf true a c = 6755399441055744 * c - a
-sumOf false a c = a + 6755399441055744 * c
+sumOf true a c = 0x18_0000_0000_0000 * c - a
+sumOf false a c = a + 0x18_0000_0000_0000 * c
 
 plus : (y : Float) (s : Bool) (a c : ℕ) → 0 < c → a ≤ 8192 * c → HasValue y s a c → y ⊕ mark ≡ round binary64 false (sumOf s a c) c
 plus y true a c C h v =
-    add-over binary64 y mark true false a (6755399441055744 * c) c C v (over mark false 6755399441055744 c mark-value)
-    ∙ sum-more binary64 true a (6755399441055744 * c) c (omega arith)
+    add-over binary64 y mark true false a (0x18_0000_0000_0000 * c) c C v (over mark false 0x18_0000_0000_0000 c mark-value)
+    ∙ sum-more binary64 true a (0x18_0000_0000_0000 * c) c (omega arith)
 plus y false a c C h v =
-    add-over binary64 y mark false false a (6755399441055744 * c) c C v (over mark false 6755399441055744 c mark-value)
-    ∙ sum-plus binary64 false a (6755399441055744 * c) c
+    add-over binary64 y mark false false a (0x18_0000_0000_0000 * c) c C v (over mark false 0x18_0000_0000_0000 c mark-value)
+    ∙ sum-plus binary64 false a (0x18_0000_0000_0000 * c) c
 
 -- it lies where binary64 has whole numbers alone
 ranged : (s : Bool) (a c : ℕ) → 0 < c → a ≤ 8192 * c → (2 ^ 52 * c ≤ sumOf s a c) × (sumOf s a c < 2 ^ 53 * c)
@@ -75,34 +75,34 @@ ranged false a c C h = (omega arith, omega arith)
 
 -- ---- mark - w
 abbrev pub gap : ℕ → ℕ
-gap B = 6755399441055744 - B + (B - 6755399441055744)
+gap B = 0x18_0000_0000_0000 - B + (B - 0x18_0000_0000_0000)
 
-pub less : (w : Float) (B : ℕ) → HasValue w false B 1 → mark ⊖ w ≡ round binary64 (ltb 6755399441055744 B) (gap B) 1
+pub less : (w : Float) (B : ℕ) → HasValue w false B 1 → mark ⊖ w ≡ round binary64 (ltb 0x18_0000_0000_0000 B) (gap B) 1
 unfolding sum
 less w B v =
-    sub-over binary64 mark w false false 6755399441055744 B 1 (lit< tt) mark-value v
-    ∙ go (ltb 6755399441055744 B) (ltb→lt 6755399441055744 B) (nltb→le 6755399441055744 B)
+    sub-over binary64 mark w false false 0x18_0000_0000_0000 B 1 (lit< tt) mark-value v
+    ∙ go (ltb 0x18_0000_0000_0000 B) (ltb→lt 0x18_0000_0000_0000 B) (nltb→le 0x18_0000_0000_0000 B)
   where
-    go : (t : Bool) → (T t → 6755399441055744 < B) → (T (not t) → B ≤ 6755399441055744) → cond t (round binary64 true (B - 6755399441055744) 1) (round binary64 false (6755399441055744 - B) 1) ≡ round binary64 t (gap B) 1
+    go : (t : Bool) → (T t → 0x18_0000_0000_0000 < B) → (T (not t) → B ≤ 0x18_0000_0000_0000) → cond t (round binary64 true (B - 0x18_0000_0000_0000) 1) (round binary64 false (0x18_0000_0000_0000 - B) 1) ≡ round binary64 t (gap B) 1
     go true h k = ap (λ (z : ℕ). round binary64 true z 1) (big B (h tt))
       where
-        big : (B : ℕ) → 6755399441055744 < B → B - 6755399441055744 ≡ 6755399441055744 - B + (B - 6755399441055744)
+        big : (B : ℕ) → 0x18_0000_0000_0000 < B → B - 0x18_0000_0000_0000 ≡ 0x18_0000_0000_0000 - B + (B - 0x18_0000_0000_0000)
         big B h = omega arith
     go false h k = ap (λ (z : ℕ). round binary64 false z 1) (small B (k tt))
       where
-        small : (B : ℕ) → B ≤ 6755399441055744 → 6755399441055744 - B ≡ 6755399441055744 - B + (B - 6755399441055744)
+        small : (B : ℕ) → B ≤ 0x18_0000_0000_0000 → 0x18_0000_0000_0000 - B ≡ 0x18_0000_0000_0000 - B + (B - 0x18_0000_0000_0000)
         small B h = omega arith
 
-gap-over : (B c : ℕ) → 6755399441055744 < B → gap B * c + 6755399441055744 * c ≡ B * c
-gap-over B c h = sym (add-mul (gap B) 6755399441055744 c) ∙ ap (λ (z : ℕ). z * c) (go B h)
+gap-over : (B c : ℕ) → 0x18_0000_0000_0000 < B → gap B * c + 0x18_0000_0000_0000 * c ≡ B * c
+gap-over B c h = sym (add-mul (gap B) 0x18_0000_0000_0000 c) ∙ ap (λ (z : ℕ). z * c) (go B h)
   where
-    go : (B : ℕ) → 6755399441055744 < B → gap B + 6755399441055744 ≡ B
+    go : (B : ℕ) → 0x18_0000_0000_0000 < B → gap B + 0x18_0000_0000_0000 ≡ B
     go B h = omega arith
 
-gap-under : (B c : ℕ) → B ≤ 6755399441055744 → gap B * c + B * c ≡ 6755399441055744 * c
+gap-under : (B c : ℕ) → B ≤ 0x18_0000_0000_0000 → gap B * c + B * c ≡ 0x18_0000_0000_0000 * c
 gap-under B c h = sym (add-mul (gap B) B c) ∙ ap (λ (z : ℕ). z * c) (go B h)
   where
-    go : (B : ℕ) → B ≤ 6755399441055744 → gap B + B ≡ 6755399441055744
+    go : (B : ℕ) → B ≤ 0x18_0000_0000_0000 → gap B + B ≡ 0x18_0000_0000_0000
     go B h = omega arith
 
 -- ---- y + (mark - w): how far the whole number that w stands for is from y
@@ -110,7 +110,7 @@ abbrev apartOf : Bool → ℕ → ℕ → ℕ → ℕ
 apartOf s a c B = sumOf s a c - B * c + (B * c - sumOf s a c)
 
 -- the four cases of the two signs come to one size
-sizes : (s t : Bool) (a c B : ℕ) → a ≤ 8192 * c → (T t → 6755399441055744 < B) → (T (not t) → B ≤ 6755399441055744) → (u : Bool) × (sum binary64 s a t (gap B * c) c ≡ round binary64 u (apartOf s a c B) c)
+sizes : (s t : Bool) (a c B : ℕ) → a ≤ 8192 * c → (T t → 0x18_0000_0000_0000 < B) → (T (not t) → B ≤ 0x18_0000_0000_0000) → (u : Bool) × (sum binary64 s a t (gap B * c) c ≡ round binary64 u (apartOf s a c B) c)
 sizes true true a c B l h k =
     let g = gap-over B c (h tt) in
     let z : a + gap B * c ≡ apartOf true a c B = omega arith in
@@ -135,8 +135,8 @@ gap-small B h = omega arith
 
 away : (y w : Float) (s : Bool) (a c B : ℕ) → 0 < c → a ≤ 8192 * c → HasValue y s a c → B ≤ 2 ^ 53 → HasValue w false B 1 → (u : Bool) × (y ⊕ (mark ⊖ w) ≡ round binary64 u (apartOf s a c B) c)
 away y w s a c B C l v b q =
-    let t = ltb 6755399441055744 B in
-    let r = sizes s t a c B l (ltb→lt 6755399441055744 B) (nltb→le 6755399441055744 B) in (
+    let t = ltb 0x18_0000_0000_0000 B in
+    let r = sizes s t a c B l (ltb→lt 0x18_0000_0000_0000 B) (nltb→le 0x18_0000_0000_0000 B) in (
       r .0,
       ap (λ (z : Float). y ⊕ z) (less w B q)
           ∙ add-over binary64 y (round binary64 t (gap B) 1) s t a (gap B * c) c C v (over (round binary64 t (gap B) 1) t (gap B) c (round-whole binary64 t (gap B) (gap-small B b)))
@@ -208,13 +208,13 @@ nearest-is true a c B C l h =
     let n = halfUp a c in
     let r = halves a c C in
     let b = half-small a c C l in
-    let e : (6755399441055744 - n) * c + n * c ≡ 6755399441055744 * c = sym (add-mul (6755399441055744 - n) n c) ∙ ap (λ (z : ℕ). z * c) (omega arith) in
-    only (sumOf true a c) c B (6755399441055744 - n) h (omega arith)
+    let e : (0x18_0000_0000_0000 - n) * c + n * c ≡ 0x18_0000_0000_0000 * c = sym (add-mul (0x18_0000_0000_0000 - n) n c) ∙ ap (λ (z : ℕ). z * c) (omega arith) in
+    only (sumOf true a c) c B (0x18_0000_0000_0000 - n) h (omega arith)
 nearest-is false a c B C l h =
     let n = halfUp a c in
     let r = halves a c C in
-    let e : (n + 6755399441055744) * c ≡ n * c + 6755399441055744 * c = add-mul n 6755399441055744 c in
-    only (sumOf false a c) c B (n + 6755399441055744) h (omega arith)
+    let e : (n + 0x18_0000_0000_0000) * c ≡ n * c + 0x18_0000_0000_0000 * c = add-mul n 0x18_0000_0000_0000 c in
+    only (sumOf false a c) c B (n + 0x18_0000_0000_0000) h (omega arith)
 
 pub sum-low : (s : Bool) (n : ℕ) → n ≤ 8192 → (2 ^ 52 ≤ sumOf s n 1) × (sumOf s n 1 < 2 ^ 53)
 sum-low true n h = (omega arith, omega arith)
@@ -253,12 +253,12 @@ marks y s a c C l v d e h =
     room q B h k = omega arith
 
 -- ---- the bit pattern of a whole number from 2^52 up to 2^53: the number, with 1074 in the exponent's field above it
-pub pattern : (w : Float) (B : ℕ) → HasValue w false B 1 → 2 ^ 52 ≤ B → B < 2 ^ 53 → toBits binary64 w ≡ 4836865999795912704 + B
+pub pattern : (w : Float) (B : ℕ) → HasValue w false B 1 → 2 ^ 52 ≤ B → B < 2 ^ 53 → toBits binary64 w ≡ 0x4320_0000_0000_0000 + B
 pattern w B v l h =
     let k : size (B * 2 ^ 1074) - 53 ≡ 1074 = both (size (B * 2 ^ 1074)) (size-gt (B * 2 ^ 1074) 1126 (mul-le-mul-right (2 ^ 1074) l)) (size-le (B * 2 ^ 1074) 1127 (mul-lt-mul-of-pos-right h (pow-pos 1074))) in
     pattern-is w (B * 2 ^ 1074) (revalue w false B 1 (B * 2 ^ 1074) (2 ^ 1074) (lit< tt) (sym (mul-one (B * 2 ^ 1074))) v)
     ∙ ap (λ (z : ℕ). z * 2 ^ 52 + B * 2 ^ 1074 / 2 ^ z) k
-    ∙ ap (λ (z : ℕ). 4836865999795912704 + z) (mul-div-cancel B (pow-pos 1074))
+    ∙ ap (λ (z : ℕ). 0x4320_0000_0000_0000 + z) (mul-div-cancel B (pow-pos 1074))
   where
     both : (z : ℕ) → 1126 < z → z ≤ 1127 → z - 53 ≡ 1074
     both z a b = omega arith
@@ -284,7 +284,7 @@ signed-minus : (k : ℕ) → k < 8192 → toSigned 63 (round binary64 true (suc 
 unfolding ofInt
 signed-minus k h = negative-back binary64 63 k (in-float-minus k h) (omega arith) .1
 
-pub last-digits : (s : Bool) (n : ℕ) → n ≤ 8192 → (4836865999795912704 + sumOf s n 1) % 4096 ≡ within (toSigned 63 (round binary64 s n 1))
+pub last-digits : (s : Bool) (n : ℕ) → n ≤ 8192 → (0x4320_0000_0000_0000 + sumOf s n 1) % 4096 ≡ within (toSigned 63 (round binary64 s n 1))
 unfolding within
 last-digits false n h = rw (signed-pos n h) (omega arith)
 last-digits true zero h = rw signed-zero refl

@@ -2,12 +2,12 @@
 -- `by-bits` that a bit pattern of a normal number holds m and e. Assumes nothing.
 use mathlib.Core.Path.{_≡_, refl, sym, ap, _∙_, subst}
 use Prim.Native.Nat.{ℕ, suc, _+_, _-_, _*_, _/_, _%_, _^_, _≤_, _<_}
-use native.Mathlib.Nat.{le-trans, le-of-eq, le-of-suc-le-suc, lt-of-not-le, not-le-of-lt, lt-of-lt-of-le, mul-one, one-mul, mul-comm, mul-assoc, mul-right-comm, mul-mul-mul-comm, mul-le-mul-right, mul-lt-mul-of-pos-right, eq-of-mul-eq-mul-right, mul-div-cancel, div-add-mod', mod-lt, le-div-iff-mul-le, div-lt-iff-lt-mul, pow-succ'}
+use native.Mathlib.Nat.{le-trans, le-of-eq, le-of-suc-le-suc, lt-of-not-le, lt-of-lt-of-le, mul-one, one-mul, mul-comm, mul-assoc, mul-right-comm, mul-mul-mul-comm, mul-le-mul-right, mul-lt-mul-of-pos-right, eq-of-mul-eq-mul-right, mul-div-cancel, div-add-mod', mod-lt, le-div-iff-mul-le, div-lt-iff-lt-mul, pow-succ'}
 use native.Mathlib.Omega.{arith}
 use mathlib.Core.Bool.{Bool, true, false, not, cond}
 use lib.IntN.{ℤ, pos, negsuc, _+ℤ_}
 use lib.Dec.{T, leb, ltb, leb→le, nleb→lt, ltb→lt, nltb→le, lit<}
-use lib.Pow.{pow-add, pow-pos, pow-mono, pow-lt}
+use lib.Pow.{pow-add, pow-pos, pow-mono}
 use borrow.Author.Tests.{le-leb, lt-leb}
 use lib.Ieee.{Float, nan, inf, fin, binary64, up, down, minus, size, round, sum, fits, ofInt, ofBits, toBits}
 use lib.Ieee.Digits.{size-lt, size-le, size-reaches, back}
@@ -21,7 +21,7 @@ use Rattle.float.proofs.Cuts.{revalue}
 use Rattle.float.proofs.Compared.{cross→lt}
 use Rattle.trig.specs.Logarithm.{octave, mantissaOf, exponentOf, Split}
 use Rattle.float.proofs.Counts.{whole-value}
-use Rattle.float.proofs.Digits.{size-gt}
+use Rattle.float.proofs.Digits.{pow-le→le, size-gt}
 use Rattle.float.proofs.Sums.{sub-over}
 use Rattle.trig.proofs.Patterns.{pattern-is, normal-value}
 
@@ -122,9 +122,6 @@ octave-says n =
     let hi : q < 2 * 2 ^ k = lt-of-lt-of-le (size-lt q) (le-of-eq (ap (λ (z : ℕ). 2 ^ z) (sym s) ∙ pow-succ' 2 k)) in
     (omega arith, omega arith)
 
-pow-le→le : (i j : ℕ) → 2 ^ i ≤ 2 ^ j → i ≤ j
-pow-le→le i j h = le-of-suc-le-suc (lt-of-not-le (λ (g : suc j ≤ i). not-le-of-lt (pow-lt g) h))
-
 -- no exponent is below that of the smallest number
 pub offset : (n : ℕ) (p : ℤ) → T (fits binary64 (fin false (suc n) p)) → (x : ℕ) × (p ≡ minus x 1074)
 offset n (pos k) t = (k + 1074, sym (minus-up (k + 1074) 1074 (omega arith) ∙ ap pos (omega arith)))
@@ -172,16 +169,16 @@ plus-up (negsuc x) k = go (ltb k (suc x)) (ltb→lt k (suc x)) (nltb→le k (suc
         less x k h = omega arith
     go false f g = sym (pow-add 2 (k - suc x) (suc x)) ∙ ap (λ (z : ℕ). 2 ^ z) (back k (suc x) (g tt)) ∙ sym (one-mul (2 ^ k)) ∙ sym (mul-one (1 * 2 ^ k))
 
-three-quarters : HasValue (fraction 3 4) false 3 4
+pub three-quarters : HasValue (fraction 3 4) false 3 4
 unfolding fraction round
 three-quarters = (refl, refl)
 
-three-halves : HasValue (fraction 3 2) false 3 2
+pub three-halves : HasValue (fraction 3 2) false 3 2
 unfolding fraction round
 three-halves = (refl, refl)
 
 -- two fractions of one value
-same-value : (x : Float) (s : Bool) (a c b d : ℕ) → HasValue x s a c → HasValue x s b d → a * d ≡ b * c
+pub same-value : (x : Float) (s : Bool) (a c b d : ℕ) → HasValue x s a c → HasValue x s b d → a * d ≡ b * c
 same-value nan s a c b d v w = absurd v
 same-value (inf t) s a c b d v w = absurd v
 same-value (fin t m e) s a c b d v w =
@@ -235,9 +232,9 @@ one-octave n N k j a b p q r s e =
 pub record Fields (n x b : ℕ) : Type 0 where
   pub digits : ℕ
   pub shift : ℕ
-  pub is : b ≡ shift * 4503599627370496 + digits
-  pub least : 4503599627370496 ≤ digits
-  pub most : digits < 9007199254740992
+  pub is : b ≡ shift * 0x10_0000_0000_0000 + digits
+  pub least : 0x10_0000_0000_0000 ≤ digits
+  pub most : digits < 0x20_0000_0000_0000
   pub value : n * 2 ^ x ≡ digits * 2 ^ shift
 
 pub fields : (y : Float) (n x : ℕ) → n < 2 ^ 53 → 2 ^ 52 ≤ n * 2 ^ x → HasValue y false (n * 2 ^ x) (2 ^ 1074) → Fields n x (toBits binary64 y)
@@ -260,15 +257,15 @@ fields y n x h l v =
     }
 
 -- the octave of a number of 53 digits
-digits-octave : (N : ℕ) → 4503599627370496 ≤ N → N < 9007199254740992 → (u : ℕ) × ((N - 4503599627370496) / 2251799813685248 ≡ u) × (u ≤ 1) × (3 * 2 ^ (52 + u) ≤ 4 * N) × (4 * N < 6 * 2 ^ (52 + u))
+digits-octave : (N : ℕ) → 0x10_0000_0000_0000 ≤ N → N < 0x20_0000_0000_0000 → (u : ℕ) × ((N - 0x10_0000_0000_0000) / 0x8_0000_0000_0000 ≡ u) × (u ≤ 1) × (3 * 2 ^ (52 + u) ≤ 4 * N) × (4 * N < 6 * 2 ^ (52 + u))
 digits-octave N h k =
-    either N 6755399441055744
+    either N 0x18_0000_0000_0000
     (λ l. (1, omega arith, omega arith, omega arith, omega arith))
     (λ l. (0, omega arith, omega arith, omega arith, omega arith))
 
 pub record ByBits (n x b : ℕ) : Type 0 where
-  pub mantissa : round binary64 false n (2 ^ octave n) ≡ ofBits binary64 ((1023 - b % 4503599627370496 / 2251799813685248) * 4503599627370496 + b % 4503599627370496)
-  pub exponent : b / 4503599627370496 + b % 4503599627370496 / 2251799813685248 + 51 ≡ x + octave n
+  pub mantissa : round binary64 false n (2 ^ octave n) ≡ ofBits binary64 ((1023 - b % 0x10_0000_0000_0000 / 0x8_0000_0000_0000) * 0x10_0000_0000_0000 + b % 0x10_0000_0000_0000)
+  pub exponent : b / 0x10_0000_0000_0000 + b % 0x10_0000_0000_0000 / 0x8_0000_0000_0000 + 51 ≡ x + octave n
 
 -- n·2^a = N·2^b and k + a = j + b: n·2^j = N·2^k
 level : (n N k j a b : ℕ) → n * 2 ^ a ≡ N * 2 ^ b → k + a ≡ j + b → n * 2 ^ j ≡ N * 2 ^ k
@@ -284,18 +281,18 @@ by-bits n x b f =
     let w = octave-says n in
     let d = digits-octave N (f .least) (f .most) in
     let u = d .0 in
-    let t : b % 4503599627370496 ≡ N - 4503599627370496 = omega (arith, f .is, f .least, f .most) in
-    let F : b / 4503599627370496 ≡ K + 1 = omega (arith, f .is, f .least, f .most) in
-    let U : b % 4503599627370496 / 2251799813685248 ≡ u = ap (λ (z : ℕ). z / 2251799813685248) t ∙ d .1 in
+    let t : b % 0x10_0000_0000_0000 ≡ N - 0x10_0000_0000_0000 = omega (arith, f .is, f .least, f .most) in
+    let F : b / 0x10_0000_0000_0000 ≡ K + 1 = omega (arith, f .is, f .least, f .most) in
+    let U : b % 0x10_0000_0000_0000 / 0x8_0000_0000_0000 ≡ u = ap (λ (z : ℕ). z / 0x8_0000_0000_0000) t ∙ d .1 in
     let e : k + x ≡ 52 + u + K = one-octave (suc n) N k (52 + u) x K (w .0) (w .1) (d .3) (d .4) (f .value) in
     let l : suc n * 2 ^ (52 + u) ≡ N * 2 ^ k = level (suc n) N k (52 + u) x K (f .value) e in
-    let c = (1023 - u) * 4503599627370496 + (N - 4503599627370496) in
-    let v : HasValue (ofBits binary64 c) false (N * 2 ^ (1022 - u)) (2 ^ 1074) = normal-value (1022 - u) (N - 4503599627370496) c N (omega arith) (omega (arith, f .most)) (omega (arith, d .2)) (omega (arith, f .least)) in
+    let c = (1023 - u) * 0x10_0000_0000_0000 + (N - 0x10_0000_0000_0000) in
+    let v : HasValue (ofBits binary64 c) false (N * 2 ^ (1022 - u)) (2 ^ 1074) = normal-value (1022 - u) (N - 0x10_0000_0000_0000) c N (omega arith) (omega (arith, f .most)) (omega (arith, d .2)) (omega (arith, f .least)) in
     record {
       mantissa = round-value binary64 (ofBits binary64 c) false (suc n) (2 ^ k) (pow-pos k) (ofBits-fits binary64 c)
           (revalue (ofBits binary64 c) false (N * 2 ^ (1022 - u)) (2 ^ 1074) (suc n) (2 ^ k) (pow-pos 1074) (whole n N k u (d .2) l) v)
-          ∙ ap (λ (z : ℕ). ofBits binary64 ((1023 - z) * 4503599627370496 + (N - 4503599627370496))) (sym U)
-          ∙ ap (λ (z : ℕ). ofBits binary64 ((1023 - b % 4503599627370496 / 2251799813685248) * 4503599627370496 + z)) (sym t);
+          ∙ ap (λ (z : ℕ). ofBits binary64 ((1023 - z) * 0x10_0000_0000_0000 + (N - 0x10_0000_0000_0000))) (sym U)
+          ∙ ap (λ (z : ℕ). ofBits binary64 ((1023 - b % 0x10_0000_0000_0000 / 0x8_0000_0000_0000) * 0x10_0000_0000_0000 + z)) (sym t);
       exponent = omega arith;
     }
   where

@@ -19,7 +19,7 @@ use Rattle.float.specs.Compare.{absOf}
 use Rattle.float.specs.Whole.{halfUp, roundOf, wholeBy}
 use Rattle.float.proofs.Compared.{le→value}
 use Rattle.trig.proofs.Marks.{in-float}
-use Rattle.trig.specs.Argument.{ratioOf, stepOf}
+use Rattle.trig.specs.Argument.{ratioOf, nearestStep}
 use Rattle.float.proofs.Counts.{whole-value}
 use Rattle.float.proofs.Sums.{mul-over}
 use Rattle.trig.proofs.Fractions.{shape}
@@ -111,5 +111,5 @@ placed t (inr h) =
     let l : n ≤ 64 = half-up (h .0 * up (h .1)) (down (h .1)) (down-pos (h .1)) (h .3) in
     le-trans (le-of-eq (ap (λ (z : Float). toUnsigned 64 (roundOf z)) (h .2) ∙ whole-back n l)) l
 
-pub step-small : (re im : Float) → toUnsigned 64 (stepOf (ratioOf re im)) ≤ 64
+pub step-small : (re im : Float) → toUnsigned 64 (nearestStep (ratioOf re im)) ≤ 64
 step-small re im = placed (of 64 ⊗ ratioOf re im) (times (ratioOf re im) (ratio-small re im))

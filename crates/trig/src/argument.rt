@@ -2,10 +2,11 @@
 use crate::choice::pick;
 use crate::constants::PI;
 use crate::table::ARCTAN;
+use float::TWO_52;
 ghost use mathlib.Core.Path.{_≡_};
 ghost use Prim.Native.Nat.{_<_, _≤_};
 ghost use lib.Ieee.{toUnsigned};
-ghost use Rattle.trig.specs.Argument.{ratioOf, stepOf, awayOf, smallArctan, arctanAt, arctanOf, reflected, argOf};
+ghost use Rattle.trig.specs.Argument.{ratioOf, nearestStep, awayOf, smallArctan, arctanAt, arctanOf, reflected, argOf};
 
 fn small_arctan(u: f64) -> f64
     ensures { λ r. ⌜ r ≡ smallArctan u ⌝ }
@@ -25,12 +26,12 @@ fn entry(j: usize) -> f64
     ensures { λ r. ⌜ r ≡ arctanAt j ⌝ }
 {
     let table = ARCTAN;
-    float::exact(table[j] as usize) / 4503599627370496.0
+    float::exact(table[j] as usize) / TWO_52
 }
 
 // The arctangent of t by the nearest 64th.
 fn arctan(t: f64) -> f64
-    requires { ⌜ toUnsigned 64 (stepOf t) ≤ 64 ⌝ }
+    requires { ⌜ toUnsigned 64 (nearestStep t) ≤ 64 ⌝ }
     ensures { λ r. ⌜ r ≡ arctanOf t ⌝ }
 {
     let j = float::round(64.0 * t);

@@ -1,28 +1,27 @@
 // The sine and the cosine of an angle, by a table of 1,025 sines of the first quarter of a turn.
 use crate::choice::pick;
 use crate::constants::PI;
+use float::TWO_52;
 ghost use mathlib.Core.Path.{_≡_};
 ghost use mathlib.Core.Bool.{true, cond};
-ghost use Prim.Native.Nat.{_-_, _%_, _<_};
+ghost use Prim.Native.Nat.{_-_, _*_, _%_, _^_, _<_};
 ghost use lib.Dec.{leb};
 ghost use lib.Ieee.{le};
 ghost use Rattle.float.specs.Ops.{of, _⊕_};
 ghost use Rattle.float.specs.Compare.{absOf};
 ghost use Rattle.float.specs.Whole.{roundOf};
 ghost use Rattle.trig.specs.Sine.{sineTable};
-ghost use Rattle.trig.specs.Circle.{scaled, restOf, indexOf, within, smallSine, smallCosine, entryOf, sineAt, sinOf, cosOf};
+ghost use Rattle.trig.specs.Circle.{restOf, indexOf, within, smallSine, smallCosine, entryOf, sineAt, sinOf, cosOf};
 
-// 1.5 × 2^52: a sum with it from 2^52 up to 2^53 has no digit after the point, and its last digits are those of the
-// whole
+// 3 × 2^51: a sum with it from 2^52 up to 2^53 has no digit after the point, and its last digits are those of the whole
 // number that was added, negative or not.
 const MARK: f64 = 6755399441055744.0;
 
 // MARK + round(y). The sum with MARK rounds y to the nearest whole number. Only where y may lie half-way between two
-// does the
-// way of rounding matter.
+// does the way of rounding matter.
 fn marked(y: f64) -> f64
     requires { ⌜ le (absOf y) (of 8191) ≡ true ⌝ }
-    ensures { λ w. ⌜ w ≡ roundOf y ⊕ of 6755399441055744 ⌝ }
+    ensures { λ w. ⌜ w ≡ roundOf y ⊕ of (3 * 2 ^ 51) ⌝ }
 {
     let w = y + MARK;
     let d = y + (MARK - w);
@@ -69,7 +68,7 @@ fn entry(sine: &[u64; 1025], k: usize) -> f64
     requires { ⌜ k < 1025 ⌝ }
     ensures { λ r. ⌜ r ≡ entryOf k ⌝ }
 {
-    float::exact(sine[k] as usize) / 4503599627370496.0
+    float::exact(sine[k] as usize) / TWO_52
 }
 
 // The place in the first quarter that has the same sine, but for the sign.

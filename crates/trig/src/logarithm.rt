@@ -2,9 +2,15 @@
 use crate::constants::LN_2;
 use crate::constants::LN_10;
 ghost use mathlib.Core.Path.{_≡_};
-ghost use Prim.Native.Nat.{_+_, _-_, _*_, _/_, _%_};
-ghost use Rattle.float.specs.Ops.{bits, of, _⊖_};
+ghost use Rattle.float.specs.Ops.{of, _⊖_};
 ghost use Rattle.trig.specs.Logarithm.{series, logOf, log10Of};
+ghost use Rattle.trig.specs.Inner.{digitsOf, fieldOf};
+
+// 2^-1022: the smallest normal number.
+const NORMAL: f64 = 2.2250738585072014e-308;
+
+// 2^54: times this, every number below the normal ones is a normal one.
+const TWO_54: f64 = 18014398509481984.0;
 
 fn sum(q: f64) -> f64
     ensures { λ r. ⌜ r ≡ series q ⌝ }
@@ -41,15 +47,14 @@ fn log_parts(m: f64, e: f64) -> f64
 }
 
 // Of the bit pattern b of a normal number: its digits t under the exponent of 1 are a number from 1 up to 2, and from
-// 1.5
-// on half of that, with the exponent's field one more.
+// 1.5 on half of that, with the exponent's field one more.
 fn log_bits(b: u64, bias: f64) -> f64
-    ensures { λ r. ⌜ r ≡ logOf (bits ((1023 - b % 4503599627370496 / 2251799813685248) * 4503599627370496 + b % 4503599627370496)) (of (b / 4503599627370496 + b % 4503599627370496 / 2251799813685248) ⊖ bias) ⌝ }
+    ensures { λ r. ⌜ r ≡ logOf (digitsOf b) (of (fieldOf b) ⊖ bias) ⌝ }
 {
-    let t = b % 4503599627370496;
-    let half = t / 2251799813685248;
-    let m = f64::from_bits((1023 - half) * 4503599627370496 + t);
-    let e = float::exact((b / 4503599627370496 + half) as usize) - bias;
+    let t = b % 0x10_0000_0000_0000;
+    let half = t / 0x8_0000_0000_0000;
+    let m = f64::from_bits((1023 - half) * 0x10_0000_0000_0000 + t);
+    let e = float::exact((b / 0x10_0000_0000_0000 + half) as usize) - bias;
     log_parts(m, e)
 }
 
@@ -63,8 +68,8 @@ pub fn log10(y: f64) -> f64
     }
     if 0.0 < y {
         if y < infinity {
-            if y < 2.2250738585072014e-308 {
-                return log_bits(f64::to_bits(y * 18014398509481984.0), 1077.0);
+            if y < NORMAL {
+                return log_bits(f64::to_bits(y * TWO_54), 1077.0);
             }
             return log_bits(f64::to_bits(y), 1023.0);
         }

@@ -2,8 +2,7 @@
 use Prim.Native.Nat.{_-_}
 use native.Mathlib.Omega.{arith}
 use mathlib.Core.Path.{refl}
-use Rattle.elements.proofs.Laws.{small-product}
-use Rattle.elements.proofs.Walk.{one-listed, one-short}
+use Rattle.elements.proofs.Walk.{small-product, one-listed, one-short}
 use borrow.Author.Needs.{needs}
 use Rattle.elements.proofs.keying.count_key_down.Statement.{statement}
 use Rattle.elements.proofs.keying.count_key_down.Tie as tie

@@ -1,5 +1,4 @@
 use borrow.Author.Needs.{needs}
-use native.Mathlib.Omega.{arith}
 use Rattle.fits.proofs.gain.leveled_at.Statement.{statement}
 use Rattle.fits.proofs.gain.leveled_at.Tie as tie
 

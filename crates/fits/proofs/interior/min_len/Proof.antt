@@ -7,7 +7,7 @@ use Rattle.fits.proofs.interior.min_len.Tie as tie
 returns : tie.Need-returns
 unfolding minLen
 returns c =
-    rw (min-interior-bits, c .nearest-u64-to-f64 .ensures, c .before .to-whole .ensures, c .before .before .ceil .ensures)
+    rw (min-interior-bits, c .from-whole .ensures, c .before .to-whole .ensures, c .before .before .ceil .ensures)
 
 pub min-len-spec : {M : Type 1} → statement M
 min-len-spec = tie.close (tie.spec (λ c κs. search needs) (λ c κs. search needs) (λ c κs. search needs) returns)

@@ -1,11 +1,11 @@
 use borrow.Author.Needs.{needs}
 use Rattle.constants.proofs.Bits.{slope-block-bits}
-use Rattle.fits.specs.Interior.{blockOf}
+use Rattle.fits.specs.Interior.{slopeBlock}
 use Rattle.fits.proofs.interior.slope_block.Statement.{statement}
 use Rattle.fits.proofs.interior.slope_block.Tie as tie
 
 returns : tie.Need-returns
-unfolding blockOf
+unfolding slopeBlock
 returns c = rw (slope-block-bits, c .to-whole .ensures, c .before .max .ensures, c .before .before .round .ensures)
 
 pub slope-block-spec : {M : Type 1} → statement M

@@ -3,7 +3,7 @@ use Rattle.fits.proofs.line.time_of.Statement.{statement}
 use Rattle.fits.proofs.line.time_of.Tie as tie
 
 returns : tie.Need-returns
-returns c = rw (c .exact2 .ensures, c .before .exact .ensures)
+returns c = c .centre .ensures
 
 pub time-of-spec : {M : Type 1} → statement M
-time-of-spec = tie.close (tie.spec (λ c. search needs) (λ c. search needs) (λ c κs. search needs) (λ c κs. search needs) returns)
+time-of-spec = tie.close (tie.spec (λ c. search needs) (λ c. search needs) (λ c κs. search needs) returns)

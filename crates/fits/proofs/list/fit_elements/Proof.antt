@@ -1,6 +1,5 @@
 -- The invariant: the fits of the first k elements are stored, and counted; they are no more than k.
 use Prim.Native.Nat.{_≤_, _-_}
-use native.Mathlib.Omega.{arith}
 use mathlib.Core.Path.{_≡_}
 use lib.ListN.{length}
 use Rattle.fits.specs.Inner.{storedFits}

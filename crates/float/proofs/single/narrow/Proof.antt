@@ -22,7 +22,7 @@ number c = not-nan (c .before .args .x) (no (c .if1 .left))
 b-lt : (c : tie.Start) → toBits binary64 (c .args .x) < 2 ^ 64
 b-lt c = toBits-lt binary64 (c .args .x) (held c)
 
-r-le : (c : tie.After-narrow-bits) → c .narrow-bits .result ≤ 2139095040
+r-le : (c : tie.After-narrow-bits) → c .narrow-bits .result ≤ 0x7f80_0000
 r-le c = c .narrow-bits .ensures .small
 
 float-to-bits-b : tie.Need-float-to-bits-b

@@ -7,14 +7,14 @@ use native.Mathlib.Omega.{arith}
 use borrow.Author.Needs.{needs}
 use lib.Dec.{lit<}
 use lib.Pow.{pow-pos, pow-mono}
-use Rattle.float.specs.Single.{Narrowed}
+use Rattle.float.specs.Inner.{Narrowed}
 use Rattle.float.proofs.Narrowing.{normal, over, sub, tiny}
 use Rattle.float.proofs.single.narrow_bits.Statement.{statement}
 use Rattle.float.proofs.single.narrow_bits.Tie as tie
 
 -- the `k` of the source
 abbrev k : tie.Then3 → ℕ
-k c = 925 - c .before .before .before .args .a / 4503599627370496
+k c = 925 - c .before .before .before .args .a / 0x10_0000_0000_0000
 
 k-le : (c : tie.Then3) → k c ≤ 53
 k-le c = omega arith
@@ -44,7 +44,7 @@ returns-2 c = normal (c .before .before .args .a) (c .if2 .taken) (c .before .if
 returns-3 : tie.Need-returns-3
 returns-3 c =
     let a = c .before .before .before .args .a in
-    let d = a % 4503599627370496 + 4503599627370496 in
+    let d = a % 0x10_0000_0000_0000 + 0x10_0000_0000_0000 in
     subst (λ (h : ℕ). Narrowed a ((d + (h - 1) + d / 2 ^ (k c + 1) % 2) / 2 ^ (k c + 1))) (sym (h-is c)) (sub a (c .if3 .taken) (c .before .if2 .left))
 
 returns-4 : tie.Need-returns-4

@@ -10,7 +10,7 @@ use Rattle.float.proofs.whole.exact.Tie as tie
 
 int-to-float-result : tie.Need-int-to-float-result
 unfolding inFloat
-int-to-float-result c = rw (toZ-pos w64 (c .before .args .n) (omega arith)) (le→leb (c .before .args .n) 9007199254740992 (c .before .pre))
+int-to-float-result c = rw (toZ-pos w64 (c .before .args .n) (omega arith)) (le→leb (c .before .args .n) 0x20_0000_0000_0000 (c .before .pre))
 
 returns : tie.Need-returns
 returns c = rw (toZ-pos w64 (c .before .args .n) (omega arith))

@@ -7,23 +7,23 @@ use borrow.Author.Needs.{needs}
 use lib.Pow.{pow-pos}
 use lib.ListN.{length, getD}
 use lib.Ieee.{nan}
-use Rattle.rank.specs.Inner.{keyAt, cell, Within, Selected}
-use Rattle.rank.proofs.Keyed.{key-lt}
+use Rattle.rank.specs.Inner.{ordinalAt, cell, RankIn, Selected}
+use Rattle.rank.proofs.Ordinals.{ordinal-lt}
 use Rattle.rank.proofs.Counted.{within-all, within-turn, within-one, cell-room, place-lt, place-pow, place-first, prefix}
 use Rattle.rank.proofs.Sorted.{held, selected}
 use Rattle.rank.proofs.select.by_digits.Statement.{statement}
 use Rattle.rank.proofs.select.by_digits.Tie as tie
 
 abbrev Inv-loop : tie.InvT-loop
-Inv-loop v rank digits bits j₀ k₀ left₀ j k left = (j ≤ digits) × Within v (2 ^ (j * bits)) rank k left
+Inv-loop v rank digits bits j₀ k₀ left₀ j k left = (j ≤ digits) × RankIn v (2 ^ (j * bits)) rank k left
 
 abbrev μ-loop : tie.MeasureT-loop
 μ-loop v rank digits bits j₀ k₀ left₀ j k left = j
 
-small : (c : tie.After-shared-slice-known Inv-loop μ-loop) → (i : ℕ) → keyAt (c .before .args .v .now) i < 2 ^ 64
-small c i = key-lt (getD (c .before .args .v .now) i nan) (c .shared-slice-known .given i)
+small : (c : tie.After-shared-slice-known Inv-loop μ-loop) → (i : ℕ) → ordinalAt (c .before .args .v .now) i < 2 ^ 64
+small c i = ordinal-lt (getD (c .before .args .v .now) i nan) (c .shared-slice-known .given i)
 
-answer : (c : tie.After-shared-slice-known Inv-loop μ-loop) (k left : ℕ) → Within (c .before .args .v .now) 1 (c .before .args .rank) k left → Selected (c .before .args .v .now) (c .before .args .rank) k
+answer : (c : tie.After-shared-slice-known Inv-loop μ-loop) (k left : ℕ) → RankIn (c .before .args .v .now) 1 (c .before .args .rank) k left → Selected (c .before .args .v .now) (c .before .args .rank) k
 answer c k left w = selected (c .before .args .v .now) (held (c .before .args .v .now) (c .shared-slice-known .given)) (c .before .args .rank) k left (c .before .pre .1 .0) w
 
 -- before a pass
@@ -34,9 +34,9 @@ module _ (c : tie.In-loop Inv-loop μ-loop) where
   place : places < 64
   place = place-lt (c .before .loop .j) (c .before .before .before .pre .1 .1) (c .loop-test .taken) (c .before .loop .inv .0)
 
-  cover : Within (c .before .before .before .args .v .now) (2 ^ places * 2 ^ c .before .before .before .args .bits) (c .before .before .before .args .rank) (c .before .loop .k) (c .before .loop .left)
+  cover : RankIn (c .before .before .before .args .v .now) (2 ^ places * 2 ^ c .before .before .before .args .bits) (c .before .before .before .args .rank) (c .before .loop .k) (c .before .loop .left)
   cover =
-      subst (λ (w : ℕ). Within (c .before .before .before .args .v .now) w (c .before .before .before .args .rank) (c .before .loop .k) (c .before .loop .left))
+      subst (λ (w : ℕ). RankIn (c .before .before .before .args .v .now) w (c .before .before .before .args .rank) (c .before .loop .k) (c .before .loop .left))
       (place-pow (c .before .loop .j) (c .before .before .before .args .bits) (c .loop-test .taken)) (c .before .loop .inv .1)
 
 -- after it
@@ -53,9 +53,9 @@ module _ (c : tie.After-pass Inv-loop μ-loop) where
   made =
       prefix (c .before .before .loop .k) (2 ^ c .before .before .before .before .args .bits) (c .pass .result .digit) room
 
-  next : Within (c .before .before .before .before .args .v .now) (2 ^ places (c .before)) (c .before .before .before .before .args .rank) (c .before .before .loop .k * 2 ^ c .before .before .before .before .args .bits % 2 ^ 64 + c .pass .result .digit) (c .pass .result .left)
+  next : RankIn (c .before .before .before .before .args .v .now) (2 ^ places (c .before)) (c .before .before .before .before .args .rank) (c .before .before .loop .k * 2 ^ c .before .before .before .before .args .bits % 2 ^ 64 + c .pass .result .digit) (c .pass .result .left)
   next =
-      subst (λ (k : ℕ). Within (c .before .before .before .before .args .v .now) (2 ^ places (c .before)) (c .before .before .before .before .args .rank) k (c .pass .result .left)) (sym made)
+      subst (λ (k : ℕ). RankIn (c .before .before .before .before .args .v .now) (2 ^ places (c .before)) (c .before .before .before .before .args .rank) k (c .pass .result .left)) (sym made)
       (within-turn (cover (c .before)) (c .pass .ensures))
 
 loop-holds : tie.Need-loop-holds Inv-loop μ-loop
@@ -83,7 +83,7 @@ returns : tie.Need-returns Inv-loop μ-loop
 returns c =
     let d = c .before .before .before .before in
     answer (d .before .before .before) _ _
-    (within-one (pow-pos (places (d .before))) (next d) (ap (λ (k : ℕ). cell (keyAt (d .before .before .before .before .args .v .now)) (2 ^ places (d .before)) k (length (d .before .before .before .before .args .v .now))) (made d) ∙ sym (d .pass .ensures .all) ∙ c .before .if1 .taken) (c .find .ensures))
+    (within-one (pow-pos (places (d .before))) (next d) (ap (λ (k : ℕ). cell (ordinalAt (d .before .before .before .before .args .v .now)) (2 ^ places (d .before)) k (length (d .before .before .before .before .args .v .now))) (made d) ∙ sym (d .pass .ensures .all) ∙ c .before .if1 .taken) (c .find .ensures))
 
 loop-less : tie.Need-loop-less Inv-loop μ-loop
 loop-less c = omega arith
@@ -95,7 +95,7 @@ returns-2 : tie.Need-returns-2 Inv-loop μ-loop
 returns-2 c =
     let a = c .before .before .before .args in
     let z : c .before .loop .j * a .bits ≡ 0 = ap (λ (j : ℕ). j * a .bits) (omega arith) ∙ zero-mul (a .bits) in
-    answer (c .before .before) (c .before .loop .k) (c .before .loop .left) (subst (λ (s : ℕ). Within (a .v .now) (2 ^ s) (a .rank) (c .before .loop .k) (c .before .loop .left)) z (c .before .loop .inv .1))
+    answer (c .before .before) (c .before .loop .k) (c .before .loop .left) (subst (λ (s : ℕ). RankIn (a .v .now) (2 ^ s) (a .rank) (c .before .loop .k) (c .before .loop .left)) z (c .before .loop .inv .1))
 
 pub by-digits-spec : {M : Type 1} → statement M
 by-digits-spec =

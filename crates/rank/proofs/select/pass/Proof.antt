@@ -2,7 +2,7 @@
 use native.Mathlib.Omega.{arith}
 use borrow.Author.Needs.{needs}
 use lib.Pow.{pow-pos}
-use Rattle.rank.proofs.Counted.{histogram-none, histogram-holds, narrowed, power-most}
+use Rattle.rank.proofs.Counted.{histogram-none, histogram-holds, next-digit, power-most}
 use Rattle.rank.proofs.select.pass.Statement.{statement}
 use Rattle.rank.proofs.select.pass.Tie as tie
 
@@ -15,7 +15,7 @@ walk-requires c κs =
 
 returns : tie.Need-returns
 returns c =
-    narrowed (pow-pos (c .before .before .before .before .before .args .b)) (c .before .before .tally .ensures) (c .before .before .before .before .before .pre .1 .1 .1) (c .walk .ensures)
+    next-digit (pow-pos (c .before .before .before .before .before .args .b)) (c .before .before .tally .ensures) (c .before .before .before .before .before .pre .1 .1 .1) (c .walk .ensures)
 
 pub pass-spec : {M : Type 1} → statement M
 pass-spec = tie.close (tie.spec tally-requires walk-requires returns)

@@ -2,7 +2,7 @@
 use native.Mathlib.Omega.{arith}
 use borrow.Author.Needs.{needs}
 use lib.ListN.{length}
-use Rattle.rank.proofs.Sorted.{rank-lt, percentile-none, selected-key, percentile-selected}
+use Rattle.rank.proofs.Sorted.{rank-lt, percentile-none, selected-ordinal, percentile-selected}
 use Rattle.rank.proofs.select.percentile.Statement.{statement}
 use Rattle.rank.proofs.select.percentile.Tie as tie
 
@@ -17,7 +17,7 @@ select-requires c κs =
     (search needs, omega (arith, rank-lt (length (c .before .before .before .args .v .now)) (c .before .before .before .args .p) (omega arith), c .rank .ensures))
 
 value-requires : tie.Need-value-requires
-value-requires c κs = selected-key (c .select .ensures)
+value-requires c κs = selected-ordinal (c .select .ensures)
 
 returns-2 : tie.Need-returns-2
 returns-2 c =

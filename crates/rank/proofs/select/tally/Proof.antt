@@ -26,7 +26,7 @@ module _ (c : tie.After-digit Inv-loop μ-loop) where
   digit-lt : c .digit .result < 2 ^ c .before .before .before .before .before .before .args .b
   digit-lt =
       rw (c .digit .ensures)
-      (mod-lt (c .before .key .result / 2 ^ c .before .before .before .before .before .before .args .s) (pow-pos (c .before .before .before .before .before .before .args .b)))
+      (mod-lt (c .before .ordinal .result / 2 ^ c .before .before .before .before .before .before .args .s) (pow-pos (c .before .before .before .before .before .before .args .b)))
 
   place : c .digit .result < 2048
   place = lt-of-lt-of-le digit-lt most
@@ -34,14 +34,14 @@ module _ (c : tie.After-digit Inv-loop μ-loop) where
 loop-holds : tie.Need-loop-holds Inv-loop μ-loop
 loop-holds c = search needs
 
-mul-key : tie.Need-mul-key Inv-loop μ-loop
-mul-key c = search needs
+mul-ordinal : tie.Need-mul-ordinal Inv-loop μ-loop
+mul-ordinal c = search needs
 
-shared-slice-read-key : tie.Need-shared-slice-read-key Inv-loop μ-loop
-shared-slice-read-key c = search needs
+shared-slice-read-ordinal : tie.Need-shared-slice-read-ordinal Inv-loop μ-loop
+shared-slice-read-ordinal c = search needs
 
-key-requires : tie.Need-key-requires Inv-loop μ-loop
-key-requires c κs = search needs
+ordinal-requires : tie.Need-ordinal-requires Inv-loop μ-loop
+ordinal-requires c κs = search needs
 
 shr-h : tie.Need-shr-h Inv-loop μ-loop
 shr-h c = search needs
@@ -64,7 +64,7 @@ element-copy-out-hist c = let h = place c in search needs
 add-hist : tie.Need-add-hist Inv-loop μ-loop
 add-hist c =
     let a = c .before .before .before .before .before .before .before .args in
-    record { fits = histogram-room (c .before .before .before .before .before .loop .inv .1) (omega arith) _ (digit-lt (c .before)) (eqb (c .before .before .key .result / 2 ^ a .s / 2 ^ a .b) (a .p)) }
+    record { fits = histogram-room (c .before .before .before .before .before .loop .inv .1) (omega arith) _ (digit-lt (c .before)) (eqb (c .before .before .ordinal .result / 2 ^ a .s / 2 ^ a .b) (a .p)) }
 
 mul-hist-2 : tie.Need-mul-hist-2 Inv-loop μ-loop
 mul-hist-2 c = let h = place (c .before) in search needs
@@ -79,7 +79,7 @@ loop-less : tie.Need-loop-less Inv-loop μ-loop
 loop-less c = search needs
 
 loop-again : tie.Need-loop-again Inv-loop μ-loop
-loop-again c = (search needs, histogram-turn (most (c .before)) (c .before .before .before .before .before .loop .inv .1) (c .before .before .key .ensures) (c .before .digit .ensures))
+loop-again c = (search needs, histogram-turn (most (c .before)) (c .before .before .before .before .before .loop .inv .1) (c .before .before .ordinal .ensures) (c .before .digit .ensures))
 
 returns : tie.Need-returns Inv-loop μ-loop
 returns c =
@@ -93,9 +93,9 @@ tally-spec =
     Inv-loop
     μ-loop
     loop-holds
-    mul-key
-    shared-slice-read-key
-    key-requires
+    mul-ordinal
+    shared-slice-read-ordinal
+    ordinal-requires
     shr-h
     digit-requires
     shr-m

@@ -1,10 +1,9 @@
 -- `rank::value` meets its contract. Assumes nothing.
-use Prim.Native.Nat.{ℕ}
 use mathlib.Core.Path.{_≡_, refl, sym, ap, _∙_}
 use borrow.Author.Needs.{needs}
 use lib.Ieee.{nan, binary64, div, ofBits}
 use Rattle.rank.specs.Inner.{valueOf}
-use Rattle.rank.proofs.Keyed.{value-nan, value-low, value-high, low-number, high-number, key-under}
+use Rattle.rank.proofs.Ordinals.{value-nan, value-low, value-high, low-number, high-number, ordinal-under}
 use Rattle.rank.proofs.select.value.Statement.{statement}
 use Rattle.rank.proofs.select.value.Tie as tie
 
@@ -30,7 +29,7 @@ returns-2 c = sym (value-low (c .before .before .args .k) (c .if2 .taken))
 returns-3 : tie.Need-returns-3
 returns-3 c =
     let k = c .before .before .args .k in
-    sym (value-high k (c .if2 .left) (key-under k (c .before .before .pre) (c .before .if1 .left)))
+    sym (value-high k (c .if2 .left) (ordinal-under k (c .before .before .pre) (c .before .if1 .left)))
 
 pub value-spec : {M : Type 1} → statement M
 value-spec =

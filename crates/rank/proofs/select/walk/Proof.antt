@@ -1,10 +1,9 @@
 -- `rank::select::walk` meets its contract. Assumes nothing.
-use Prim.Native.Nat.{ℕ, _+_, _-_, _≤_, _<_}
+use Prim.Native.Nat.{ℕ, _+_, _-_, _≤_}
 use mathlib.Core.Path.{_≡_, sym, ap, _∙_}
 use native.Mathlib.Omega.{arith}
 use borrow.Author.Needs.{needs}
-use lib.ListN.{getD}
-use Rattle.rank.specs.Inner.{sumTo, Passed}
+use Rattle.rank.specs.Inner.{sumTo}
 use Rattle.rank.proofs.Counted.{sum-none, sum-turn}
 use Rattle.rank.proofs.select.walk.Statement.{statement}
 use Rattle.rank.proofs.select.walk.Tie as tie

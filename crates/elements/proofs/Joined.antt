@@ -1,17 +1,16 @@
 -- Lists of key-downs: what each count, and the list of elements, is over one list put behind another. Assumes nothing.
-use Prim.Native.Nat.{ℕ, suc, _+_, _-_, _*_, _≤_}
+use Prim.Native.Nat.{ℕ, _+_, _-_, _*_, _≤_}
 use native.Mathlib.Nat.{add-mul}
 use native.Mathlib.Omega.{arith}
-use mathlib.Core.Path.{_≡_, refl, _∙_}
+use mathlib.Core.Path.{_≡_}
 use mathlib.Core.Bool.{Bool, true, false, not, cond}
-use mathlib.Core.List.{List, [], _∷_, _++_, map}
-use lib.ListN.{length, length-append}
+use mathlib.Core.List.{List, [], _∷_, _++_, map-append}
+use lib.ListN.{length-append}
 use lib.Ieee.{Float}
-use Rattle.elements.specs.declared.element.KeyedElement.{KeyedElement}
 use Rattle.elements.specs.Keying.{KeyDown, elementOf, long, airtimeOf, listedOf, shortOf, counts, elementsOf}
 use Rattle.elements.specs.Inner.{foundPlus}
 use Rattle.lists.specs.Those.{those}
-use Rattle.lists.proofs.Those.{those-append, those-shorter}
+use Rattle.lists.proofs.Those.{those-append}
 
 pub airtime-append : (step : ℕ) (a b : List KeyDown) → airtimeOf step (a ++ b) ≡ airtimeOf step a + airtimeOf step b
 unfolding airtimeOf
@@ -34,10 +33,6 @@ pub those-less : (p : KeyDown → Bool) (step : ℕ) (ks : List KeyDown) → air
 unfolding those airtimeOf
 those-less p step [] = omega arith
 those-less p step (k ∷ ks) = cond-less (p k) step k (those p ks) (airtimeOf step ks) (those-less p step ks)
-
-map-append : (f : KeyDown → KeyedElement) (a b : List KeyDown) → map f (a ++ b) ≡ map f a ++ map f b
-map-append f [] b = refl
-map-append f (k ∷ a) b = rw (map-append f a b)
 
 module _ (row : ℕ → Float) (thr : Float) (step : ℕ) (fs : Float) where
   pub counts-append : (a b : List KeyDown) → counts row thr step fs (a ++ b) ≡ foundPlus (counts row thr step fs a) (counts row thr step fs b)

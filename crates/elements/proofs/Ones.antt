@@ -1,10 +1,17 @@
--- At carrier 0 nothing is turned, so a recording of whole numbers 0 and 1 keeps them through `derotated`, and at a
--- step of 1 through `block_means` and the running sum. Assumes nothing.
-use Prim.Native.Nat.{ℕ, zero, suc, _+_, _-_, _*_, _^_, _≤_, _<_}
+-- Recordings of samples 0 and (1, 0) at carrier 0. Nothing is turned there, so that they keep their numbers through
+-- `derotated`, and at a step of 1 through `block_means` and the running sum: `derot-ones`, `row-ones`. Assumes nothing.
+use Prim.Native.Nat.{ℕ, zero, suc, _+_, _-_, _*_, _^_, _≤_, _<_, min}
+use native.Mathlib.Nat.{eq-or-lt-of-le, le-of-suc-le-suc, not-suc-le-zero}
 use native.Mathlib.Omega.{arith}
 use mathlib.Core.Path.{_≡_, refl, sym, ap, _∙_}
-use mathlib.Core.List.{List}
-use lib.Ieee.{Float, binary64, add, sub, mul, div, neg, ofInt, ofBits, round}
+use mathlib.Core.Logic.{⊎-elim}
+use mathlib.Core.Bool.{Bool, true, false, cond}
+use mathlib.Core.List.{List, [], _∷_, _++_}
+use lib.Dec.{leb}
+use lib.ListN.{length, getD, length-append, List·getD-append}
+use lib.Seq.{getD-append-add}
+use lib.Ieee.{Float, nan, binary64, add, sub, mul, div, neg, ofInt, ofBits, round}
+use borrow.Author.Tests.{leb-true, leb-false}
 use Rattle.float.specs.Ops.{_⊕_, _⊖_, of, eight, fraction}
 use Rattle.float.specs.Root.{sqrtOf}
 use Rattle.float.proofs.Counts.{whole-add, whole-sub}
@@ -14,13 +21,15 @@ use Rattle.complex.specs.Rows.{zAt, cSum}
 use Rattle.row.specs.Blocks.{rotorOf, derot, meanFrom, blockMean}
 use Rattle.row.specs.Envelope.{runOf, amplitude}
 use Rattle.row.proofs.Unturned.{rotor-unturned}
+use Rattle.elements.specs.Ones.{isOne, onesOf}
+use Rattle.elements.proofs.KeyDowns.{either}
 
 -- a whole number as a complex one
 abbrev pub real : ℕ → Complex
 real n = cNew (of n) (of 0)
 
 -- ---- facts of few numbers, computed at each
-pub at-two : (P : ℕ → Type 0) → P 0 → P 1 → (m : ℕ) → m ≤ 1 → P m
+at-two : (P : ℕ → Type 0) → P 0 → P 1 → (m : ℕ) → m ≤ 1 → P m
 at-two P p0 p1 zero h = p0
 at-two P p0 p1 (suc zero) h = p1
 at-two P p0 p1 (suc (suc m)) h = absurd (omega arith)
@@ -90,15 +99,15 @@ nought-real = refl
 
 -- ---- a recording of n samples, b k at k with b k ≤ 1, of which T k are ones below k: at a step of 1 its row is the
 -- number of ones in each eight, over 8
-module _ (iq : List Float) (n : ℕ) (b T : ℕ → ℕ) (few : n ≤ 1048576) (bit : (k : ℕ) → b k ≤ 1) (start : T 0 ≡ 0) (next : (k : ℕ) → T (suc k) ≡ T k + b k)
+module _ (iq : List Float) (n : ℕ) (b T : ℕ → ℕ) (few : n ≤ 2 ^ 20) (bit : (k : ℕ) → b k ≤ 1) (start : T 0 ≡ 0) (next : (k : ℕ) → T (suc k) ≡ T k + b k)
     (is : (k : ℕ) → k < n → zAt iq k ≡ real (b k)) where
-  pub derot-real : (k : ℕ) → k < n → derot iq (of 0) k ≡ real (b k)
+  derot-real : (k : ℕ) → k < n → derot iq (of 0) k ≡ real (b k)
   unfolding derot
   derot-real k h =
       ap (λ (v : Complex). cMul v (cConj (rotorOf (of 0) k))) (is k h) ∙ ap (λ (v : Complex). cMul (real (b k)) (cConj v)) (rotor-unturned k (omega arith))
       ∙ turned-is (b k) (bit k)
 
-  pub mean-real : (k : ℕ) → k < n → blockMean iq (of 0) 1 k ≡ real (b k)
+  mean-real : (k : ℕ) → k < n → blockMean iq (of 0) 1 k ≡ real (b k)
   unfolding blockMean meanFrom cSum
   mean-real k h =
       let here : k * 1 + 0 ≡ k = omega arith in
@@ -141,5 +150,68 @@ module _ (iq : List Float) (n : ℕ) (b T : ℕ → ℕ) (few : n ≤ 1048576) (
       ∙ ap (λ (v : Complex). cAdd (real m) (cSub (real (b (8 + i))) v)) (mean-real i (omega arith))
       ∙ moved-real m (b (8 + i)) (b i) (omega arith) (bit (8 + i)) (bit i) (omega arith) ∙ ap real same
 
-  pub row-real : (i : ℕ) → 8 + i ≤ n → amplitude (blockMean iq (of 0) 1) i ≡ fraction (T (8 + i) - T i) 8
+  row-real : (i : ℕ) → 8 + i ≤ n → amplitude (blockMean iq (of 0) 1) i ≡ fraction (T (8 + i) - T i) 8
   row-real i h = rw (run-real i h) (eighth-is (T (8 + i) - T i) (omega (arith, ones-high 8 i)))
+
+-- ---- a list of samples, one behind the other
+both-parts : (x y x' y' : Float) → x ≡ x' → y ≡ y' → cNew x y ≡ cNew x' y'
+both-parts x y x' y' p q = rw (p, q)
+
+pair-last : (l : List Float) (x y : Float) (n : ℕ) → length l ≡ 2 * n → zAt (l ++ (x ∷ y ∷ [])) n ≡ cNew x y
+pair-last l x y n size =
+    let re : 2 * n ≡ length l + 0 = omega arith in
+    let im : 2 * n + 1 ≡ length l + 1 = omega arith in
+    both-parts (getD (l ++ (x ∷ y ∷ [])) (2 * n) nan) (getD (l ++ (x ∷ y ∷ [])) (2 * n + 1) nan) x y
+    (ap (λ (i : ℕ). getD (l ++ (x ∷ y ∷ [])) i nan) re ∙ getD-append-add l (x ∷ y ∷ []) 0 nan)
+    (ap (λ (i : ℕ). getD (l ++ (x ∷ y ∷ [])) i nan) im ∙ getD-append-add l (x ∷ y ∷ []) 1 nan)
+
+pair-before : (l r : List Float) (k : ℕ) → 2 * k + 1 < length l → zAt (l ++ r) k ≡ zAt l k
+pair-before l r k h =
+    both-parts (getD (l ++ r) (2 * k) nan) (getD (l ++ r) (2 * k + 1) nan) (getD l (2 * k) nan) (getD l (2 * k + 1) nan)
+    (List·getD-append l r nan (2 * k) (omega arith)) (List·getD-append l r nan (2 * k + 1) h)
+
+-- ---- ones at a..e: the recording's samples, and how many ones there are below k
+module _ (a e : ℕ) where
+  abbrev pub bitAt : ℕ → ℕ
+  bitAt k = cond (isOne a e k) 1 0
+
+  abbrev pub onesBelow : ℕ → ℕ
+  onesBelow k = min k (suc e) - a
+
+  pub bit-small : (k : ℕ) → bitAt k ≤ 1
+  bit-small k = small (isOne a e k)
+    where
+      small : (t : Bool) → cond t 1 0 ≤ 1
+      small true = omega arith
+      small false = omega arith
+
+  pub ones-next : (k : ℕ) → onesBelow (suc k) ≡ onesBelow k + bitAt k
+  unfolding isOne
+  ones-next k =
+      ⊎-elim
+      (λ p. let h = leb-true a k p in
+      ⊎-elim (λ q. let g = leb-true k e q in rw (p, q) (omega arith)) (λ q. let g = leb-false k e q in rw (p, q) (omega arith)) (either (leb k e)))
+      (λ p. let h = leb-false a k p in rw p (omega arith))
+      (either (leb a k))
+
+  pub length-ones : (n : ℕ) → length (onesOf a e n) ≡ 2 * n
+  unfolding onesOf
+  length-ones zero = refl
+  length-ones (suc n) = length-append (onesOf a e n) (of (bitAt n) ∷ of 0 ∷ []) ∙ (let so-far = length-ones n in omega arith)
+
+  pub sample-ones : (n k : ℕ) → k < n → zAt (onesOf a e n) k ≡ real (bitAt k)
+  unfolding onesOf
+  sample-ones zero k h = absurd (not-suc-le-zero h)
+  sample-ones (suc n) k h =
+      let size = length-ones n in
+      ⊎-elim (λ q. ap (zAt (onesOf a e (suc n))) q ∙ pair-last (onesOf a e n) (of (bitAt n)) (of 0) n size ∙ ap (λ (i : ℕ). real (bitAt i)) (sym q))
+      (λ l. pair-before (onesOf a e n) (of (bitAt n) ∷ of 0 ∷ []) k (omega arith) ∙ sample-ones n k l)
+      (eq-or-lt-of-le (le-of-suc-le-suc h))
+
+  -- ---- derotated by nothing, and its row at a step of 1
+  module _ (n : ℕ) (few : n ≤ 2 ^ 20) where
+    pub derot-ones : (k : ℕ) → k < n → derot (onesOf a e n) (of 0) k ≡ real (bitAt k)
+    derot-ones = derot-real (onesOf a e n) n bitAt onesBelow few bit-small (omega arith) ones-next (sample-ones n)
+
+    pub row-ones : (i : ℕ) → 8 + i ≤ n → amplitude (blockMean (onesOf a e n) (of 0) 1) i ≡ fraction (onesBelow (8 + i) - onesBelow i) 8
+    row-ones = row-real (onesOf a e n) n bitAt onesBelow few bit-small (omega arith) ones-next (sample-ones n)

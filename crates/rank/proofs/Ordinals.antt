@@ -1,14 +1,14 @@
--- Keys stand in the order of the values (`precedes-key`), and a key gives its value back (`value-key`), which is one
--- that a value can have (`is-key`). Assumes nothing.
+-- Ordinals stand in the order of the values (`precedes-ordinal`), and an ordinal gives its value back
+-- (`value-ordinal`). `is-ordinal`: which numbers are one. Assumes nothing.
 use mathlib.Core.Path.{_≡_, refl, sym, ap, _∙_, subst}
-use mathlib.Core.Logic.{_⊎_, inl, inr}
-use mathlib.Core.Bool.{Bool, true, false, not, _&&_, _||_, Bool·beq, cond}
-use Prim.Native.Nat.{ℕ, zero, suc, _+_, _-_, _*_, _/_, _%_, _^_, _≤_, _<_}
-use native.Mathlib.Nat.{zero-add, eq-or-lt-of-le, mod-eq-of-lt, lt-trans}
+use mathlib.Core.Logic.{inl, inr}
+use mathlib.Core.Bool.{Bool, true, false, not, _&&_, _||_, cond}
+use Prim.Native.Nat.{ℕ, zero, suc, _+_, _-_, _/_, _%_, _^_, _≤_, _<_}
+use native.Mathlib.Nat.{zero-add, eq-or-lt-of-le, mod-eq-of-lt}
 use native.Mathlib.Decide.{decLt}
 use native.Mathlib.Omega.{arith}
-use borrow.Author.Tests.{lt-ltb, le-ltb, eq-eqb, ne-eqb}
-use lib.Dec.{T, ltb, eqb, lit<}
+use borrow.Author.Tests.{lt-ltb, le-ltb, ne-eqb}
+use lib.Dec.{T, ltb, eqb}
 use lib.Ieee.{Float, nan, inf, fin, Format, lt, eq, odd, neg, ofFields, ofBits, toBits, below, level, binary64, fits, isNan, nanBits, prec, low, ones, hid}
 use lib.Ieee.Exact.{HasValue}
 use lib.Ieee.Bits.{ofBits-toBits, toBits-lt, nanBits-above}
@@ -17,8 +17,8 @@ use Rattle.float.specs.Inner.{counted}
 use Rattle.float.proofs.Value.{counted-value}
 use Rattle.float.proofs.Patterns.{ofBits-fields}
 use Rattle.float.proofs.Narrowing.{magnitude-le}
-use Rattle.rank.specs.Order.{minusZero, precedes}
-use Rattle.rank.specs.Inner.{keyBits, keyOf, valueOf, Key}
+use Rattle.rank.specs.Order.{precedes}
+use Rattle.rank.specs.Inner.{ordinalBits, ordinalOf, valueOf, Ordinal}
 use Rattle.rank.proofs.Patterns.{top, Pattern, keeps-ltb, lt-pattern, eq-pattern, zero-pattern}
 
 -- ---- a pattern with the sign is that of the negated value
@@ -66,22 +66,22 @@ negated (fin s m e) p h = (ap not (h .0), h .1, h .2)
 minus : (p : ℕ) → p ≤ top → Pattern (ofBits binary64 (2 ^ 63 + p)) true p
 minus p h = subst (λ (x : Float). Pattern x true p) (sym (minus-bits p (omega arith))) (negated (ofBits binary64 p) p (plus p h))
 
--- ---- the key of a sign and a pattern without the sign
-abbrev signKey : Bool → ℕ → ℕ
-signKey false p = p + 2 ^ 63
-signKey true p = 2 ^ 63 - 1 - p
+-- ---- the ordinal of a sign and a pattern without the sign
+abbrev signOrdinal : Bool → ℕ → ℕ
+signOrdinal false p = p + 2 ^ 63
+signOrdinal true p = 2 ^ 63 - 1 - p
 
-pub key-number : (x : Float) → T (not (isNan x)) → keyOf x ≡ keyBits (toBits binary64 x)
-unfolding keyOf isNan
-key-number nan h = absurd h
-key-number (inf s) h = refl
-key-number (fin s m e) h = refl
+pub ordinal-number : (x : Float) → T (not (isNan x)) → ordinalOf x ≡ ordinalBits (toBits binary64 x)
+unfolding ordinalOf isNan
+ordinal-number nan h = absurd h
+ordinal-number (inf s) h = refl
+ordinal-number (fin s m e) h = refl
 
-pub key-plus : (b : ℕ) → b < 2 ^ 63 → keyBits b ≡ b + 2 ^ 63
-key-plus b h = ap (λ (t : Bool). cond t (b + 2 ^ 63) (2 ^ 64 - 1 - b)) (lt-ltb b (2 ^ 63) h)
+pub ordinal-plus : (b : ℕ) → b < 2 ^ 63 → ordinalBits b ≡ b + 2 ^ 63
+ordinal-plus b h = ap (λ (t : Bool). cond t (b + 2 ^ 63) (2 ^ 64 - 1 - b)) (lt-ltb b (2 ^ 63) h)
 
-pub key-minus : (b : ℕ) → 2 ^ 63 ≤ b → keyBits b ≡ 2 ^ 64 - 1 - b
-key-minus b h = ap (λ (t : Bool). cond t (b + 2 ^ 63) (2 ^ 64 - 1 - b)) (le-ltb b (2 ^ 63) h)
+pub ordinal-minus : (b : ℕ) → 2 ^ 63 ≤ b → ordinalBits b ≡ 2 ^ 64 - 1 - b
+ordinal-minus b h = ap (λ (t : Bool). cond t (b + 2 ^ 63) (2 ^ 64 - 1 - b)) (le-ltb b (2 ^ 63) h)
 
 pub value-low : (k : ℕ) → k < 2 ^ 63 → valueOf k ≡ ofBits binary64 (2 ^ 64 - 1 - k)
 unfolding valueOf
@@ -94,7 +94,7 @@ value-high k h l = rw (ne-eqb k (2 ^ 64 - 1) (omega arith), le-ltb k (2 ^ 63) h)
 -- ---- every f64 is the NaN or has a sign and a pattern
 pub data View : Float → Type 0 where
   missing : View nan
-  signed : {x : Float} (s : Bool) (p : ℕ) → p ≤ top → Pattern x s p → keyOf x ≡ signKey s p → valueOf (signKey s p) ≡ x → View x
+  signed : {x : Float} (s : Bool) (p : ℕ) → p ≤ top → Pattern x s p → ordinalOf x ≡ signOrdinal s p → valueOf (signOrdinal s p) ≡ x → View x
 
 number : (x : Float) → T (not (isNan x)) → T (fits binary64 x) → View x
 number x n f = go (decLt b (2 ^ 63))
@@ -106,7 +106,7 @@ number x n f = go (decLt b (2 ^ 63))
     go (yes h) =
         let m : b ≤ top = subst (λ (z : ℕ). z ≤ top) (mod-eq-of-lt h) (magnitude-le x f n) in
         let e : ofBits binary64 b ≡ x = ofBits-toBits binary64 x f in
-        signed false b m (subst (λ (y : Float). Pattern y false b) e (plus b m)) (key-number x n ∙ key-plus b h)
+        signed false b m (subst (λ (y : Float). Pattern y false b) e (plus b m)) (ordinal-number x n ∙ ordinal-plus b h)
         (value-high (b + 2 ^ 63) (omega arith) (omega arith) ∙ ap (ofBits binary64) (omega arith) ∙ e)
     go (no h) =
         let w : b < 2 ^ 64 = toBits-lt binary64 x f in
@@ -118,7 +118,7 @@ number x n f = go (decLt b (2 ^ 63))
         let e : ofBits binary64 (2 ^ 63 + p) ≡ x = ap (ofBits binary64) i ∙ ofBits-toBits binary64 x f in
         let k : 2 ^ 64 - 1 - b ≡ 2 ^ 63 - 1 - p = omega arith in
         let j : 2 ^ 64 - 1 - (2 ^ 63 - 1 - p) ≡ 2 ^ 63 + p = omega arith in
-        signed true p m (subst (λ (y : Float). Pattern y true p) e (minus p m)) (key-number x n ∙ key-minus b l ∙ k)
+        signed true p m (subst (λ (y : Float). Pattern y true p) e (minus p m)) (ordinal-number x n ∙ ordinal-minus b l ∙ k)
         (value-low (2 ^ 63 - 1 - p) (omega arith) ∙ ap (ofBits binary64) j ∙ e)
 
 pub view : (x : Float) → T (fits binary64 x) → View x
@@ -128,38 +128,38 @@ view (inf s) f = number (inf s) tt f
 view (fin s m e) f = number (fin s m e) tt f
 
 -- ---- what the view shows
-pub key-nan : keyOf nan ≡ 2 ^ 64 - 1
-unfolding keyOf isNan
-key-nan = refl
+pub ordinal-nan : ordinalOf nan ≡ 2 ^ 64 - 1
+unfolding ordinalOf isNan
+ordinal-nan = refl
 
 pub value-nan : valueOf (2 ^ 64 - 1) ≡ nan
 unfolding valueOf
 value-nan = refl
 
-pub value-key : (x : Float) → T (fits binary64 x) → valueOf (keyOf x) ≡ x
-value-key x f = go x (view x f)
+pub value-ordinal : (x : Float) → T (fits binary64 x) → valueOf (ordinalOf x) ≡ x
+value-ordinal x f = go x (view x f)
   where
-    go : (x : Float) → View x → valueOf (keyOf x) ≡ x
-    go x missing = ap valueOf key-nan ∙ value-nan
+    go : (x : Float) → View x → valueOf (ordinalOf x) ≡ x
+    go x missing = ap valueOf ordinal-nan ∙ value-nan
     go x (signed s p m h k v) = ap valueOf k ∙ v
 
-pub is-key : (x : Float) → T (fits binary64 x) → Key (keyOf x)
-is-key x f = go x (view x f)
+pub is-ordinal : (x : Float) → T (fits binary64 x) → Ordinal (ordinalOf x)
+is-ordinal x f = go x (view x f)
   where
-    go : (x : Float) → View x → Key (keyOf x)
-    go x missing = inl key-nan
+    go : (x : Float) → View x → Ordinal (ordinalOf x)
+    go x missing = inl ordinal-nan
     go x (signed false p m h k v) = inr (omega arith, omega arith)
     go x (signed true p m h k v) = inr (omega arith, omega arith)
 
-pub key-lt : (x : Float) → T (fits binary64 x) → keyOf x < 2 ^ 64
-key-lt x f = go (is-key x f)
+pub ordinal-lt : (x : Float) → T (fits binary64 x) → ordinalOf x < 2 ^ 64
+ordinal-lt x f = go (is-ordinal x f)
   where
-    go : Key (keyOf x) → keyOf x < 2 ^ 64
+    go : Ordinal (ordinalOf x) → ordinalOf x < 2 ^ 64
     go (inl e) = omega arith
     go (inr h) = omega arith
 
-pub key-injective : (x y : Float) → T (fits binary64 x) → T (fits binary64 y) → keyOf x ≡ keyOf y → x ≡ y
-key-injective x y f g e = sym (value-key x f) ∙ ap valueOf e ∙ value-key y g
+pub ordinal-injective : (x y : Float) → T (fits binary64 x) → T (fits binary64 y) → ordinalOf x ≡ ordinalOf y → x ≡ y
+ordinal-injective x y f g e = sym (value-ordinal x f) ∙ ap valueOf e ∙ value-ordinal y g
 
 -- ---- the order
 abbrev ordered : Bool → ℕ → Bool → ℕ → Bool
@@ -183,7 +183,7 @@ middle p q = go (decLt 0 p) (decLt 0 q)
     go (no h) (yes k) = rw (ne-eqb p q (omega arith))
     go (no h) (no k) = let a : p ≡ 0 = omega arith in let b : q ≡ 0 = omega arith in rw (a, b)
 
-order : (s : Bool) (p : ℕ) (t : Bool) (q : ℕ) → p ≤ top → q ≤ top → ordered s p t q ≡ ltb (signKey s p) (signKey t q)
+order : (s : Bool) (p : ℕ) (t : Bool) (q : ℕ) → p ≤ top → q ≤ top → ordered s p t q ≡ ltb (signOrdinal s p) (signOrdinal t q)
 order false p false q h k = no-middle (ltb p q) (level false p false q) true ∙ sym (keeps-ltb (λ z. z + 2 ^ 63) (λ (a b : ℕ) (l : a < b). omega arith) p q)
 order false p true q h k = no-middle false (level false p true q) (not (eqb q 0)) ∙ sym (le-ltb (p + 2 ^ 63) (2 ^ 63 - 1 - q) (omega arith))
 order true p false q h k = go (decLt 0 (p + q)) ∙ sym (lt-ltb (2 ^ 63 - 1 - p) (q + 2 ^ 63) (omega arith))
@@ -215,38 +215,38 @@ after-nan nan = refl
 after-nan (inf s) = refl
 after-nan (fin s m e) = refl
 
-signKey-lt : (s : Bool) (p : ℕ) → p ≤ top → signKey s p < 2 ^ 64 - 1
-signKey-lt false p h = omega arith
-signKey-lt true p h = omega arith
+signOrdinal-lt : (s : Bool) (p : ℕ) → p ≤ top → signOrdinal s p < 2 ^ 64 - 1
+signOrdinal-lt false p h = omega arith
+signOrdinal-lt true p h = omega arith
 
 by-patterns : (x y : Float) (s t : Bool) (p q : ℕ) → Pattern x s p → Pattern y t q → precedes x y ≡ ordered s p t q
 unfolding precedes
 by-patterns x y s t p q h k = rw (lt-pattern x y s t p q h k, eq-pattern x y s t p q h k, zero-pattern x s p h, zero-pattern y t q k, is-number y t q k)
 
-pub precedes-key : (x y : Float) → T (fits binary64 x) → T (fits binary64 y) → precedes x y ≡ ltb (keyOf x) (keyOf y)
-precedes-key x y f g = go x y (view x f) (view y g)
+pub precedes-ordinal : (x y : Float) → T (fits binary64 x) → T (fits binary64 y) → precedes x y ≡ ltb (ordinalOf x) (ordinalOf y)
+precedes-ordinal x y f g = go x y (view x f) (view y g)
   where
-    go : (x y : Float) → View x → View y → precedes x y ≡ ltb (keyOf x) (keyOf y)
-    go x y missing missing = rw key-nan (after-nan nan)
-    go x y missing (signed t q m h k v) = after-nan y ∙ sym (le-ltb (keyOf nan) (keyOf y) (omega (arith, key-nan, signKey-lt t q m)))
-    go x y (signed s p m h k v) missing = before-nan x (is-number x s p h) ∙ sym (lt-ltb (keyOf x) (keyOf nan) (omega (arith, key-nan, signKey-lt s p m)))
+    go : (x y : Float) → View x → View y → precedes x y ≡ ltb (ordinalOf x) (ordinalOf y)
+    go x y missing missing = rw ordinal-nan (after-nan nan)
+    go x y missing (signed t q m h k v) = after-nan y ∙ sym (le-ltb (ordinalOf nan) (ordinalOf y) (omega (arith, ordinal-nan, signOrdinal-lt t q m)))
+    go x y (signed s p m h k v) missing = before-nan x (is-number x s p h) ∙ sym (lt-ltb (ordinalOf x) (ordinalOf nan) (omega (arith, ordinal-nan, signOrdinal-lt s p m)))
     go x y (signed s p m h k v) (signed t q m' h' k' v') = by-patterns x y s t p q h h' ∙ order s p t q m m' ∙ rw (k, k')
 
--- ---- back from a key: no pattern of a NaN
+-- ---- back from an ordinal: no pattern of a NaN
 number-bits : (n : ℕ) → n % 2 ^ 63 ≤ top → T (not (nanBits binary64 n))
 number-bits n h = subst (λ (b : Bool). T (not b)) (sym (nanBits-above binary64 n)) (le→nltb top (n % 2 ^ 63) h)
 
-pub low-number : (k : ℕ) → Key k → k < 2 ^ 63 → T (not (nanBits binary64 (2 ^ 64 - 1 - k)))
+pub low-number : (k : ℕ) → Ordinal k → k < 2 ^ 63 → T (not (nanBits binary64 (2 ^ 64 - 1 - k)))
 low-number k (inl e) h = absurd (never k e h)
   where
     never : (k : ℕ) → k ≡ 2 ^ 64 - 1 → k < 2 ^ 63 → ⊥
     never k e h = omega arith
 low-number k (inr r) h = number-bits (2 ^ 64 - 1 - k) (omega arith)
 
-pub high-number : (k : ℕ) → Key k → (k ≡ 2 ^ 64 - 1 → ⊥) → T (not (nanBits binary64 (k - 2 ^ 63)))
+pub high-number : (k : ℕ) → Ordinal k → (k ≡ 2 ^ 64 - 1 → ⊥) → T (not (nanBits binary64 (k - 2 ^ 63)))
 high-number k (inl e) n = absurd (n e)
 high-number k (inr r) n = number-bits (k - 2 ^ 63) (omega arith)
 
-pub key-under : (k : ℕ) → Key k → (k ≡ 2 ^ 64 - 1 → ⊥) → k < 2 ^ 64 - 1
-key-under k (inl e) n = absurd (n e)
-key-under k (inr r) n = omega arith
+pub ordinal-under : (k : ℕ) → Ordinal k → (k ≡ 2 ^ 64 - 1 → ⊥) → k < 2 ^ 64 - 1
+ordinal-under k (inl e) n = absurd (n e)
+ordinal-under k (inr r) n = omega arith
