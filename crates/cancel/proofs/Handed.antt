@@ -25,10 +25,10 @@ use Rattle.fits.specs.declared.fit.Fit.the-variants.{Fitted}
 use Rattle.fits.specs.declared.estimate.Estimate.{Estimate}
 use Rattle.fits.specs.Fit.{fitOf}
 use Rattle.fits.specs.List.{fitsIn, isSkipped, skippedOf}
-use Rattle.fits.specs.Estimate.{refined, strongEstimate, strongElements, strongFits}
+use Rattle.fits.specs.Estimate.{refined, strongEstimate}
 use Rattle.fits.proofs.Records.{fits-read}
 use Rattle.fits.proofs.Fitted.{fits-are, fit-is, fitted-or-skipped}
-use Rattle.fits.proofs.Strong.{strong-exactly, strong-nothing, strong-fits-are, strong-fit-is, strong-counted}
+use Rattle.fits.proofs.Strong.{handed-strong, handed-strong-nothing, handed-strong-fits, strong-fit-is, strong-counted}
 use Rattle.cancel.specs.declared.find.FindAnswer.the-variants as find
 use Rattle.cancel.specs.declared.fit.FitAnswer.the-variants as fit
 use Rattle.cancel.specs.declared.estimate.EstimateAnswer.the-variants as estimate
@@ -86,33 +86,33 @@ module _ (iq : List Float) (fs hint : Float) (elements fits work : List Float) (
   unfolding strongEstimate
   at-refined = ap (λ (e : Estimate). e .«carrier_hz») (estimate-done iq fs hint elements fits work _ promise .1)
 
-  listed-are : elementsIn left (d .found .listed) ≡ strongElements iq fs hint
-  listed-are = elements-read left elements _ _ (estimate-done iq fs hint elements fits work _ promise .2)
-
-  fitted-are : fitsIn fits-left (d .fitted) ≡ strongFits iq fs hint
-  fitted-are = fits-read fits-left fits _ _ (estimate-done iq fs hint elements fits work _ promise .3)
-
   -- The elements handed out are those of the second find, as of find_elements.
   pub estimate-exactly : Singles iq → (thr : Float) → thresholdOf iq fs (d .«carrier_hz») ≡ At thr
       → LongKeyDowns (rowOf iq fs (d .«carrier_hz»)) thr (rowLength iq fs - 1) (stepOf fs) fs (elementsIn left (d .found .listed))
   estimate-exactly s thr t =
-      let known = estimate-accepted iq fs hint _ _ _ (estimate-done iq fs hint elements fits work _ promise .0) in
-      rw (at-refined, listed-are) (strong-exactly iq fs hint s (known .iq-ok) thr (rw at-refined at t))
+      let told = estimate-done iq fs hint elements fits work _ promise in
+      let known = estimate-accepted iq fs hint _ _ _ (told .0) in
+      rw at-refined (handed-strong iq fs hint left elements _ (told .2) s (known .iq-ok) thr (rw at-refined at t))
 
   pub estimate-nothing : thresholdOf iq fs (d .«carrier_hz») ≡ Absent → elementsIn left (d .found .listed) ≡ []
-  estimate-nothing t = rw listed-are (strong-nothing iq fs hint (rw at-refined at t))
+  estimate-nothing t =
+      handed-strong-nothing iq fs hint left elements _ (estimate-done iq fs hint elements fits work _ promise .2) (rw at-refined at t)
 
   -- The fits handed out are, in order, of those of these elements that are not skipped, and each is the fit of its
   -- element.
   pub estimate-elements-are : map (λ g. g .element) (fitsIn fits-left (d .fitted))
       ≡ those (λ e. not (isSkipped (fitOf iq fs (d .«carrier_hz» ⊘ fs) e))) (elementsIn left (d .found .listed))
-  estimate-elements-are = rw (at-refined, listed-are, fitted-are) (strong-fits-are iq fs hint)
+  estimate-elements-are =
+      let told = estimate-done iq fs hint elements fits work _ promise in
+      rw at-refined (handed-strong-fits iq fs hint left elements _ (told .2) fits-left fits _ (told .3))
 
   pub estimate-each : (g : ElementFit) → List·Memᴰ g (fitsIn fits-left (d .fitted)) → fitOf iq fs (d .«carrier_hz» ⊘ fs) (g .element) ≡ Fitted g
-  estimate-each g m = rw at-refined (strong-fit-is iq fs hint g (rw fitted-are at m))
+  estimate-each g m =
+      let told = estimate-done iq fs hint elements fits work _ promise in
+      rw at-refined (strong-fit-is iq fs hint g (rw (fits-read fits-left fits _ _ (told .3)) at m))
 
   -- Fitted and skipped are all of these elements.
   pub estimate-skipped : d .fitted + length (skippedOf iq fs (d .«carrier_hz») (elementsIn left (d .found .listed))) ≡ d .found .listed
   estimate-skipped =
       let told = estimate-done iq fs hint elements fits work _ promise in
-      rw (listed-are, at-refined, told .1) (strong-counted iq fs hint)
+      rw (elements-read left elements _ _ (told .2), at-refined, told .1) (strong-counted iq fs hint)
