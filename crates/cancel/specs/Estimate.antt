@@ -15,7 +15,7 @@ use Rattle.cancel.specs.declared.estimate.EstimateAnswer.the-variants.{R
 use Rattle.cancel.specs.Answers.{Outcome, accepted, refused, byNumber}
 use Rattle.cancel.specs.Questions.{Asked, ask, firstNo, recordingQuestions, carrierOk, placesOk, workOk}
 
--- It asks 1 to 6. Each of the two lists to be filled has floor(B/2) places.
+-- It asks 1 to 6. Each of the two lists to be filled needs floor(B/2) places.
 abbrev pub estimateQuestions : List Float → Float → Float → ℕ → ℕ → ℕ → List Asked
 estimateQuestions iq fs hint elements fits work =
     let b = stepBlocks iq fs in

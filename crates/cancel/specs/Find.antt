@@ -13,7 +13,7 @@ use Rattle.cancel.specs.declared.find.FindAnswer.the-variants.{Refused, 
 use Rattle.cancel.specs.Answers.{Outcome, accepted, refused, byNumber}
 use Rattle.cancel.specs.Questions.{Asked, ask, firstNo, recordingQuestions, carrierOk, placesOk, workOk}
 
--- It asks 1 to 6. The list to be filled has floor(B/2) places.
+-- It asks 1 to 6. The list to be filled needs floor(B/2) places.
 abbrev pub findQuestions : List Float → Float → Float → ℕ → ℕ → List Asked
 findQuestions iq fs hz elements work =
     let b = stepBlocks iq fs in

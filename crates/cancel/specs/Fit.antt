@@ -12,7 +12,7 @@ use Rattle.cancel.specs.declared.fit.FitAnswer.the-variants.{Refused, Do
 use Rattle.cancel.specs.Answers.{Outcome, accepted, refused, byNumber}
 use Rattle.cancel.specs.Questions.{Asked, ask, firstNo, recordingQuestions, carrierOk, placesOk, workOk, elementsOk}
 
--- It asks 1 to 7. The list to be filled has one place per given element.
+-- It asks 1 to 7. The list to be filled needs one place per given element.
 abbrev pub fitQuestions : List Float → Float → Float → List Float → ℕ → ℕ → ℕ → List Asked
 fitQuestions iq fs hz elements count fits work =
     recordingQuestions iq fs

@@ -55,18 +55,18 @@ sizeOk x = finiteF x && sized x
 unfoldable pub positionOk : Float → Bool
 positionOk x = le zero x && lt x (2^ 20) && eq (floorOf x) x
 
--- Is every number of an element so?
+-- Are the numbers of a given element such numbers?
 unfoldable pub elementOk : KeyedElement → Bool
 elementOk e = sizeOk (e .start) && sizeOk (e .end) && positionOk (e .up) && positionOk (e .down)
 
--- Does a given count fit the places of its list, and is every record there so?
+-- Does a given count fit the places of its list, and is every record there, at the first `count` places, accepted?
 unfoldable pub allOk : {A : Type 0} → (A → Bool) → (ℕ → A) → ℕ → ℕ → Bool
 allOk ok at places count = leb count places && every (λ p. ok (at p)) count
 
 abbrev pub elementsOk : List Float → ℕ → Bool
 elementsOk l count = allOk elementOk (elementAt l) (length l / ELEMENT) count
 
--- Is every number of a fit so?
+-- Are the numbers of a given fit?
 unfoldable pub fitOk : ElementFit → Bool
 fitOk f =
     elementOk (f .element) && sizeOk (f .gain .re) && sizeOk (f .gain .im) && sizeOk (f .«slope_rad_per_sample»)
@@ -75,7 +75,7 @@ fitOk f =
 abbrev pub fitsOk : List Float → ℕ → Bool
 fitsOk l count = allOk fitOk (fitAt l) (length l / FIT) count
 
--- Is every number of a given estimate so: its carrier, its carrier step, its elements and its fits?
+-- And those of a given estimate: its carrier and carrier step, its elements and its fits?
 unfoldable pub estimateOk : Float → Float → List Float → ℕ → List Float → ℕ → Bool
 estimateOk carrier step elements element-count fits fit-count =
     sizeOk carrier && sizeOk step && elementsOk elements element-count && fitsOk fits fit-count

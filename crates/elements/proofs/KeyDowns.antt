@@ -1,6 +1,6 @@
 -- Which pairs `keyDowns` has: each upward crossing with the next downward one, each once, in order (01, part 3). For
 -- every row and threshold; where a row must have no NaN, the theorem says so. Assumes nothing.
-use Prim.Native.Nat.{ℕ, zero, suc, _+_, _-_, _*_, _/_, _≤_, _<_}
+use Prim.Native.Nat.{ℕ, zero, suc, _+_, _-_, _*_, _≤_, _<_}
 use native.Mathlib.Nat.{eq-or-lt-of-le, le-of-suc-le-suc}
 use native.Mathlib.Omega.{arith}
 use mathlib.Core.Path.{_≡_, refl, sym, ap, _∙_, subst}
@@ -17,7 +17,7 @@ use Rattle.elements.specs.declared.keying.Rising.{Rising}
 use Rattle.elements.specs.declared.keying.Rising.the-variants.{At, Nothing}
 use Rattle.elements.specs.Keying.{upward, downward, KeyDown, keyDown, IsKeyDown, InOrder, pending, ended, keyDowns, long, listedOf, shortOf, counts, foundTo}
 use Rattle.lists.specs.Those.{those}
-use Rattle.elements.proofs.Compared.{apart, total, reached-is}
+use Rattle.elements.proofs.Reached.{not-reached, reached, reached-number}
 use Rattle.elements.proofs.Walk.{Spaced, one-way, pending-up, pending-down, pending-same, key-downs-more, key-downs-same, spaced}
 
 pub either : (t : Bool) → (t ≡ true) ⊎ (t ≡ false)
@@ -60,7 +60,7 @@ module _ (row : ℕ → Float) (thr : Float) where
   pub first-not-up : upward row thr 0 ≡ true → ⊥
   unfolding upward
   first-not-up h =
-      let a = apart (row 0) thr (and-left (lt (row 0) thr) (le thr (row 0)) h) in
+      let a = not-reached (row 0) thr (and-left (lt (row 0) thr) (le thr (row 0)) h) in
       let b = and-right (lt (row 0) thr) (le thr (row 0)) h in
       false≢true (sym a ∙ b)
 
@@ -139,7 +139,7 @@ module _ (row : ℕ → Float) (thr : Float) where
   not-up : (i : ℕ) → le thr (row (i - 1)) ≡ true → upward row thr i ≡ false
   unfolding upward
   not-up i h =
-      ⊎-elim (λ l. absurd (false≢true (sym (apart (row (i - 1)) thr l) ∙ h))) (λ l. rw l) (either (lt (row (i - 1)) thr))
+      ⊎-elim (λ l. absurd (false≢true (sym (not-reached (row (i - 1)) thr l) ∙ h))) (λ l. rw l) (either (lt (row (i - 1)) thr))
 
   second-false : (a b : Bool) → a ≡ true → (a && b) ≡ false → b ≡ false
   second-false a b e h = rw e at h
@@ -149,7 +149,7 @@ module _ (row : ℕ → Float) (thr : Float) where
   stays-on m h d n =
       let here : suc m - 1 ≡ m = omega arith in
       let not-below = second-false (le thr (row (suc m - 1))) (lt (row (suc m)) thr) (rw here h) d in
-      total (row (suc m)) thr n (reached-is (row m) thr h) not-below
+      reached (row (suc m)) thr n (reached-number (row m) thr h) not-below
 
   module _ (last : ℕ) (numbers : (i : ℕ) → i ≤ last → isNan (row i) ≡ false) where
     stays : (u m : ℕ) → upward row thr u ≡ true → u ≤ m → m ≤ last → ((i : ℕ) → u < i → i ≤ m → downward row thr i ≡ false) → le thr (row m) ≡ true

@@ -2,7 +2,7 @@
 
 -- Records     records of any kind in a list, by their width and where they are stored: `Kind`, `stored-handed`; of
 --             elements: `element-kind`, `elements-handed`; what a promise says: `elements-read`, `elements-again`
--- Compared    an amplitude lies below a threshold or reaches it: `apart`, `total`
+-- Reached     an amplitude lies below a threshold or reaches it: `not-reached`, `reached`
 -- Joined      counts and elements of one list of key-downs behind another
 -- Walk        a turn of the loop over a row: what is pending, counted and stored; how small the counts are
 -- KeyDowns    which pairs `keyDowns` has: `key-down-is`; their order: `in-order`; `listed-is`, `places`
@@ -15,7 +15,7 @@
 -- Ones        recordings of zeros and ones at carrier 0: `length-ones`, `sample-ones`, `derot-ones`, `row-ones`
 -- Edges       01's edge table, the rows of elements: `edges`, `step-3000`, `window-3000`, `finds`
 pub mod Records
-pub mod Compared
+pub mod Reached
 pub mod Joined
 pub mod Walk
 pub mod KeyDowns

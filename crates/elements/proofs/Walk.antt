@@ -17,7 +17,7 @@ use Rattle.elements.specs.Keying.{upward, downward, KeyDown, keyDown, pe
 use Rattle.elements.specs.Element.{ELEMENT, elementFrom}
 use Rattle.elements.specs.Inner.{putElementFrom, putElement, storedBy, stored, storedFrom, foundPlus, oneListed, oneShort, Room, Ending}
 use Rattle.lists.specs.Those.{those}
-use Rattle.elements.proofs.Compared.{apart}
+use Rattle.elements.proofs.Reached.{not-reached}
 use Rattle.elements.proofs.Joined.{airtime-append, airtime-steps, those-less, counts-append, elements-append}
 use Rattle.elements.proofs.Records.{length-stored, stored-append, element-kind}
 use Rattle.lists.proofs.Those.{those-shorter}
@@ -29,7 +29,7 @@ small-product i step h g = mul-le-mul h g
 -- no crossing is both upward and downward
 pub one-way : (row : ℕ → Float) (thr : Float) (i : ℕ) → upward row thr i ≡ true → downward row thr i ≡ false
 unfolding upward downward
-one-way row thr i h = rw (apart (row (i - 1)) thr (and-left (lt (row (i - 1)) thr) (le thr (row i)) h))
+one-way row thr i h = rw (not-reached (row (i - 1)) thr (and-left (lt (row (i - 1)) thr) (le thr (row i)) h))
 
 -- ---- what position j + 1 makes of what is pending and of the key-downs
 module _ (row : ℕ → Float) (thr : Float) (j : ℕ) where

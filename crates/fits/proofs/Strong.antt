@@ -1,6 +1,6 @@
 -- What `estimate_strong` hands out: the elements of the long key-downs at the refined carrier, and the fits of those of
 -- them that get one. Assumes nothing.
-use Prim.Native.Nat.{_+_, _-_}
+use Prim.Native.Nat.{ℕ, _+_, _-_}
 use native.Mathlib.Omega.{arith}
 use mathlib.Core.Path.{_≡_}
 use mathlib.Core.Bool.{not}
@@ -13,16 +13,19 @@ use Rattle.row.specs.Samples.{Iq}
 use Rattle.row.specs.Window.{stepOf}
 use Rattle.row.specs.Envelope.{rowOf, rowLength}
 use Rattle.row.proofs.Bounds.{Singles}
+use Rattle.elements.specs.Element.{ELEMENT, elementsIn, handed, handedElements}
 use Rattle.elements.specs.Keying.{LongKeyDowns}
 use Rattle.elements.specs.Find.{At, Absent, thresholdOf, elementsFound}
 use Rattle.elements.proofs.Exactly.{found-exactly, found-nothing}
+use Rattle.elements.proofs.Records.{elements-read}
 use Rattle.elements.proofs.Recording.{listed-counted}
 use Rattle.fits.specs.declared.fit.ElementFit.{ElementFit}
 use Rattle.fits.specs.declared.fit.Fit.the-variants.{Fitted}
 use Rattle.fits.specs.Fit.{fitOf}
-use Rattle.fits.specs.List.{isSkipped, skippedOf}
+use Rattle.fits.specs.List.{FIT, fitsIn, handedFits, isSkipped, skippedOf}
 use Rattle.fits.specs.Estimate.{fitsFound, refined, strongElements, strongFits, strongEstimate}
 use Rattle.fits.proofs.Fitted.{fits-are, fit-is, fitted-or-skipped}
+use Rattle.fits.proofs.Records.{fits-read}
 
 module _ (iq : List Float) (fs hint : Float) where
   abbrev carrier : Float
@@ -54,3 +57,17 @@ module _ (iq : List Float) (fs hint : Float) where
       let all = fitted-or-skipped iq fs carrier (elementsFound iq fs carrier) in
       let listed = listed-counted iq fs carrier in
       omega arith
+
+  -- The same of the elements and fits at the first places of lists that hand them out.
+  module _ (cur l : List Float) (n : ℕ) (h : handedElements cur n ≡ handed ELEMENT (strongElements iq fs hint) l) where
+    pub handed-strong : Singles iq → Iq iq → (thr : Float) → thresholdOf iq fs (refined iq fs hint) ≡ At thr
+        → LongKeyDowns (rowOf iq fs (refined iq fs hint)) thr (rowLength iq fs - 1) (stepOf fs) fs (elementsIn cur n)
+    handed-strong s q thr t = rw (elements-read cur l n (strongElements iq fs hint) h) (strong-exactly s q thr t)
+
+    pub handed-strong-nothing : thresholdOf iq fs (refined iq fs hint) ≡ Absent → elementsIn cur n ≡ []
+    handed-strong-nothing t = rw (elements-read cur l n (strongElements iq fs hint) h) (strong-nothing t)
+
+    module _ (fits m : List Float) (k : ℕ) (g : handedFits fits k ≡ handed FIT (strongFits iq fs hint) m) where
+      pub handed-strong-fits : map (λ f. f .element) (fitsIn fits k) ≡ those (λ e. not (isSkipped (fitOf iq fs (refined iq fs hint ⊘ fs) e))) (elementsIn cur n)
+      handed-strong-fits =
+          rw (fits-read fits m k (strongFits iq fs hint) g, elements-read cur l n (strongElements iq fs hint) h) strong-fits-are

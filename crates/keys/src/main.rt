@@ -2,9 +2,11 @@
 // strong sender counts. A line of the report starts with its line end, since what closes the report
 // stands on the last line.
 use cancel::EstimateAnswer;
+use elements::ELEMENT;
 use elements::Found;
 use elements::element_at;
 use fits::Estimate;
+use fits::FIT;
 use float::whole::to_whole;
 use libc::STDIN_FILENO;
 use libc::STDOUT_FILENO;
@@ -91,10 +93,11 @@ fn done(samples: usize, e: Estimate, elements: &[f64])
     text(b")\n");
 }
 
+// At 3,000 samples a second B is at most 2,048, the most samples there are: its half in places, four times it in work.
 fn estimate(iq: &[f32]) {
-    let mut elements = [0.0f64; 4096];
-    let mut fits = [0.0f64; 8192];
-    let mut work = [0.0f64; 8192];
+    let mut elements = [0.0f64; ELEMENT * 1024];
+    let mut fits = [0.0f64; FIT * 1024];
+    let mut work = [0.0f64; 4 * 2048];
     match cancel::estimate_strong(iq, 3000.0, 0.0, &mut elements, &mut fits, &mut work) {
         EstimateAnswer::Refused(no) => refused(no),
         EstimateAnswer::Done(e) => done(iq.len() / 2, e, &elements),

@@ -1,0 +1,118 @@
+-- What an accepted call hands out. The premise `promise` of each theorem is what the call ensures where it answers
+-- `Done` and leaves `left`, `fits-left` and `scratch` in the slices it was lent. `Singles iq` says that every number of
+-- the recording is an f32, as in every slice of f32. Assumes nothing.
+use Prim.Native.Nat.{ℕ, _+_, _-_}
+use native.Mathlib.Omega.{arith}
+use mathlib.Core.Path.{_≡_, ap}
+use mathlib.Core.Bool.{not}
+use mathlib.Core.List.{List, [], map, List·Memᴰ}
+use lib.ListN.{length}
+use lib.Ieee.{Float}
+use Rattle.float.specs.Ops.{_⊘_}
+use Rattle.lists.specs.Those.{those}
+use Rattle.lists.proofs.Firsts.{length-firsts}
+use Rattle.row.specs.Window.{stepOf}
+use Rattle.row.specs.Envelope.{rowOf, rowLength}
+use Rattle.row.proofs.Bounds.{Singles}
+use Rattle.elements.specs.declared.keying.Found.{Found}
+use Rattle.elements.specs.Element.{elementAt, elementsIn}
+use Rattle.elements.specs.Keying.{LongKeyDowns}
+use Rattle.elements.specs.Find.{At, Absent, thresholdOf}
+use Rattle.elements.proofs.Records.{elements-read}
+use Rattle.elements.proofs.Exactly.{handed-exactly, handed-nothing}
+use Rattle.fits.specs.declared.fit.ElementFit.{ElementFit}
+use Rattle.fits.specs.declared.fit.Fit.the-variants.{Fitted}
+use Rattle.fits.specs.declared.estimate.Estimate.{Estimate}
+use Rattle.fits.specs.Fit.{fitOf}
+use Rattle.fits.specs.List.{fitsIn, isSkipped, skippedOf}
+use Rattle.fits.specs.Estimate.{refined, strongEstimate}
+use Rattle.fits.proofs.Records.{fits-read}
+use Rattle.fits.proofs.Fitted.{fits-are, fit-is, fitted-or-skipped}
+use Rattle.fits.proofs.Strong.{handed-strong, handed-strong-nothing, handed-strong-fits, strong-fit-is, strong-counted}
+use Rattle.cancel.specs.declared.find.FindAnswer.the-variants as find
+use Rattle.cancel.specs.declared.fit.FitAnswer.the-variants as fit
+use Rattle.cancel.specs.declared.estimate.EstimateAnswer.the-variants as estimate
+use Rattle.cancel.specs.Find.{findOutcome, findRule}
+use Rattle.cancel.specs.Fit.{fitOutcome, fitRule}
+use Rattle.cancel.specs.Estimate.{estimateOutcome, estimateRule}
+use Rattle.cancel.proofs.FindAccepted.{find-accepted, find-done}
+use Rattle.cancel.proofs.FitAccepted.{fit-done}
+use Rattle.cancel.proofs.EstimateAccepted.{estimate-accepted, estimate-done}
+
+-- ---- find_elements
+
+module _ (iq : List Float) (fs hz : Float) (elements work : List Float) (f : Found) (left scratch : List Float)
+    (promise : findOutcome (find.Done f) left scratch ≡ findRule iq fs hz elements work) where
+  -- A pair is among the elements handed out exactly if it is a key-down of the row and long; each is there once, in
+  -- order, each down before the next up.
+  pub find-exactly : Singles iq → (thr : Float) → thresholdOf iq fs hz ≡ At thr
+      → LongKeyDowns (rowOf iq fs hz) thr (rowLength iq fs - 1) (stepOf fs) fs (elementsIn left (f .listed))
+  find-exactly s thr t =
+      let told = find-done iq fs hz elements work _ promise in
+      handed-exactly iq fs hz left elements (f .listed) (told .2) s (find-accepted iq fs hz _ _ (told .0) .iq-ok) thr t
+
+  -- With no threshold, nothing.
+  pub find-nothing : thresholdOf iq fs hz ≡ Absent → elementsIn left (f .listed) ≡ []
+  find-nothing t = handed-nothing iq fs hz left elements (f .listed) (find-done iq fs hz elements work _ promise .2) t
+
+-- ---- fit_elements
+
+module _ (iq : List Float) (fs hz : Float) (elements : List Float) (count : ℕ) (fits work : List Float) (n : ℕ) (fits-left scratch : List Float)
+    (promise : fitOutcome (fit.Done n) fits-left scratch ≡ fitRule iq fs hz elements count fits work) where
+  -- The fits handed out are, in order, of the given elements that are not skipped.
+  pub fit-elements-are : map (λ g. g .element) (fitsIn fits-left n) ≡ those (λ e. not (isSkipped (fitOf iq fs (hz ⊘ fs) e))) (elementsIn elements count)
+  fit-elements-are =
+      rw (fits-read fits-left fits n _ (fit-done iq fs hz elements count fits work _ promise .2)) (fits-are iq fs hz (elementsIn elements count))
+
+  -- Each is the fit of its element.
+  pub fit-each : (g : ElementFit) → List·Memᴰ g (fitsIn fits-left n) → fitOf iq fs (hz ⊘ fs) (g .element) ≡ Fitted g
+  fit-each g m =
+      fit-is iq fs hz (elementsIn elements count) g (rw (fits-read fits-left fits n _ (fit-done iq fs hz elements count fits work _ promise .2)) at m)
+
+  -- Fitted and skipped are all of the given elements.
+  pub fit-skipped : n + length (skippedOf iq fs hz (elementsIn elements count)) ≡ count
+  unfolding elementsIn
+  fit-skipped =
+      let told = fit-done iq fs hz elements count fits work _ promise .1 in
+      let all = fitted-or-skipped iq fs hz (elementsIn elements count) in
+      let given : length (elementsIn elements count) ≡ count = length-firsts (elementAt elements) count in
+      omega arith
+
+-- ---- estimate_strong, at the carrier that it answers
+
+module _ (iq : List Float) (fs hint : Float) (elements fits work : List Float) (d : Estimate) (left fits-left scratch : List Float)
+    (promise : estimateOutcome (estimate.Done d) left fits-left scratch ≡ estimateRule iq fs hint elements fits work) where
+  at-refined : d .«carrier_hz» ≡ refined iq fs hint
+  unfolding strongEstimate
+  at-refined = ap (λ (e : Estimate). e .«carrier_hz») (estimate-done iq fs hint elements fits work _ promise .1)
+
+  -- The elements handed out are those of the second find, as of find_elements.
+  pub estimate-exactly : Singles iq → (thr : Float) → thresholdOf iq fs (d .«carrier_hz») ≡ At thr
+      → LongKeyDowns (rowOf iq fs (d .«carrier_hz»)) thr (rowLength iq fs - 1) (stepOf fs) fs (elementsIn left (d .found .listed))
+  estimate-exactly s thr t =
+      let told = estimate-done iq fs hint elements fits work _ promise in
+      let known = estimate-accepted iq fs hint _ _ _ (told .0) in
+      rw at-refined (handed-strong iq fs hint left elements _ (told .2) s (known .iq-ok) thr (rw at-refined at t))
+
+  pub estimate-nothing : thresholdOf iq fs (d .«carrier_hz») ≡ Absent → elementsIn left (d .found .listed) ≡ []
+  estimate-nothing t =
+      handed-strong-nothing iq fs hint left elements _ (estimate-done iq fs hint elements fits work _ promise .2) (rw at-refined at t)
+
+  -- The fits handed out are, in order, of those of these elements that are not skipped, and each is the fit of its
+  -- element.
+  pub estimate-elements-are : map (λ g. g .element) (fitsIn fits-left (d .fitted))
+      ≡ those (λ e. not (isSkipped (fitOf iq fs (d .«carrier_hz» ⊘ fs) e))) (elementsIn left (d .found .listed))
+  estimate-elements-are =
+      let told = estimate-done iq fs hint elements fits work _ promise in
+      rw at-refined (handed-strong-fits iq fs hint left elements _ (told .2) fits-left fits _ (told .3))
+
+  pub estimate-each : (g : ElementFit) → List·Memᴰ g (fitsIn fits-left (d .fitted)) → fitOf iq fs (d .«carrier_hz» ⊘ fs) (g .element) ≡ Fitted g
+  estimate-each g m =
+      let told = estimate-done iq fs hint elements fits work _ promise in
+      rw at-refined (strong-fit-is iq fs hint g (rw (fits-read fits-left fits _ _ (told .3)) at m))
+
+  -- Fitted and skipped are all of these elements.
+  pub estimate-skipped : d .fitted + length (skippedOf iq fs (d .«carrier_hz») (elementsIn left (d .found .listed))) ≡ d .found .listed
+  estimate-skipped =
+      let told = estimate-done iq fs hint elements fits work _ promise in
+      rw (elements-read left elements _ _ (told .2), at-refined, told .1) (strong-counted iq fs hint)
