@@ -11,8 +11,8 @@
  * the lists to be filled and the work slice.
  *
  * Records. An element is 4 doubles: start, end (in samples, between samples), up, down (positions in the amplitude
- * row). A fit is 8 doubles: its element's four, gain (real, imaginary), phase slope (radians a sample), reference sample.
- * A place of a list is one record; numbers after the last whole place are no place and are never written.
+ * row). A fit is 8 doubles: its element's four, gain (real, imaginary), phase slope (radians a sample), reference
+ * sample. A place of a list is one record; numbers after the last whole place are no place and are never written.
  *
  * Answers. Every call but the last seven returns 0, or the number of the first question below that it must answer with
  * no. On a refusal nothing lent is written, figures included. On a 0 the figures are written, then the first `listed`

@@ -5,10 +5,12 @@ use crate::random::Random;
 use crate::records::{ELEMENT, FIT};
 use crate::scene::Scene;
 
-/// Makes up to three of the seven questions answer no, wherever that can be done.
+/// Makes one to three of the seven questions answer no, wherever that can be done; most often one, and most often the
+/// last, which has the most ways to be answered so.
 pub fn refused(scene: &Scene, r: &mut Random) -> Scene {
     let mut s = scene.clone();
-    let mut noes: Vec<usize> = (0..r.whole(1, 4)).map(|_| r.whole(1, 8)).collect();
+    let many = r.pick(&[1, 1, 1, 2, 3]);
+    let mut noes: Vec<usize> = (0..many).map(|_| r.pick(&[1, 2, 3, 4, 5, 6, 7, 7, 7, 7])).collect();
     // Sizes are made wrong while the rate and the recording still say what is right.
     noes.sort_by(|a, b| b.cmp(a));
     noes.dedup();
