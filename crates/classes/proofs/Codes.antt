@@ -1,9 +1,13 @@
 -- The number of a class tells it from the others.
-use mathlib.Core.Path.{_≡_, refl}
+use Prim.Native.Nat.{ℕ}
+use mathlib.Core.Path.{_≡_, refl, sym, ap, _∙_}
+use mathlib.Core.Bool.{true, cond}
+use borrow.Author.Tests.{eqb-true}
+use lib.Dec.{eqb}
 use lib.Ieee.{Float, eq, ofInt}
 use Rattle.classes.specs.declared.class.BlockClass.{BlockClass}
 use Rattle.classes.specs.declared.class.BlockClass.the-variants.{Edge, Interior, Gap, Other}
-use Rattle.classes.specs.Class.{codeOf, isClass}
+use Rattle.classes.specs.Class.{numberOf, codeOf, isClass}
 
 pub code-tells : (c d : BlockClass) → eq (codeOf d) (codeOf c) ≡ isClass c d
 unfolding eq ofInt
@@ -23,3 +27,17 @@ code-tells Other Edge = refl
 code-tells Other Interior = refl
 code-tells Other Gap = refl
 code-tells Other Other = refl
+
+-- one number, one class
+named : ℕ → BlockClass
+named n = cond (eqb n 0) Edge (cond (eqb n 1) Interior (cond (eqb n 2) Gap Other))
+
+named-back : (c : BlockClass) → named (numberOf c) ≡ c
+unfolding named
+named-back Edge = refl
+named-back Interior = refl
+named-back Gap = refl
+named-back Other = refl
+
+pub class-same : (c d : BlockClass) → isClass c d ≡ true → c ≡ d
+class-same c d e = sym (named-back c) ∙ ap named (eqb-true (numberOf c) (numberOf d) e) ∙ named-back d

@@ -1,5 +1,5 @@
--- The Rust takes a fit off sample by sample, each from the mean of the block that it finds by a division; the definition
--- of the residual check takes it off block by block. Both leave the same of every mean (`as-sampled`). Assumes nothing.
+-- The Rust takes a fit off sample by sample, each from the mean of the block that it finds by a division. The residual
+-- check's definition takes it off block by block. Both leave the same of every mean (`as-sampled`). Assumes nothing.
 use Prim.Native.Nat.{ℕ, zero, suc, _+_, _-_, _*_, _/_, _≤_, _<_, min, max}
 use native.Mathlib.Nat.{div-mul-le-self, lt-div-mul-add, mul-le-mul-right, suc-mul}
 use native.Mathlib.Decide.{decLt}

@@ -31,7 +31,7 @@ ratioDb (Value n) (Value d) = cond (lt zero d) (of 10 ⊗ log10Of (maxOf n MIN_P
 ratioDb (Value n) Nothing = inf false
 ratioDb Nothing d = inf false
 
--- `nb`: a level of at least the smallest normal number
+-- the Rust's `nb`: the neighbour's level, which is at least the smallest normal number
 unfoldable pub floored : Percentile → Percentile
 floored (Value v) = Value (maxOf v MIN_POSITIVE)
 floored Nothing = Nothing

@@ -5,16 +5,17 @@ use fits::ElementFit;
 use fits::fit_at;
 use synth::Span;
 use synth::fit_span;
+use synth::span::least;
 use synth::synth_baseband;
 ghost use mathlib.Core.Path.{_≡_};
-ghost use Prim.Native.Nat.{ℕ, _+_, _*_, _≤_, _<_, min, max};
+ghost use Prim.Native.Nat.{ℕ, _+_, _*_, _≤_, _<_, max};
 ghost use lib.ListN.{length, getD};
 ghost use lib.Ieee.{nan};
 ghost use Rattle.lists.specs.Fill.{fill};
 ghost use Rattle.trig.specs.Sine.{sineTable};
 ghost use Rattle.complex.specs.Rows.{zAt};
 ghost use Rattle.fits.specs.Lists.{fitsIn};
-ghost use Rattle.measure.specs.Left.{takenFrom, lessSpan, lessFit, lessFits, residualMean};
+ghost use Rattle.measure.specs.Left.{takenFrom, lessSpan, lessFit, lessFits};
 ghost use Rattle.measure.specs.Inner.{Lessened};
 
 // A fit's synthesis at n samples taken off a mean of len.
@@ -45,13 +46,6 @@ fn most(a: usize, b: usize) -> usize
     ensures { λ r. ⌜ r ≡ max a b ⌝ }
 {
     if a <= b { b } else { a }
-}
-
-// Rust: usize::min.
-fn least(a: usize, b: usize) -> usize
-    ensures { λ r. ⌜ r ≡ min a b ⌝ }
-{
-    if a <= b { a } else { b }
 }
 
 // Taken off at those of the len samples from `from` on that a span covers.

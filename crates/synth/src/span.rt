@@ -12,7 +12,7 @@ pub struct Span {
 }
 
 // Rust: usize::min.
-fn least(a: usize, b: usize) -> usize
+pub fn least(a: usize, b: usize) -> usize
     ensures { λ r. ⌜ r ≡ min a b ⌝ }
 {
     if a <= b { a } else { b }
