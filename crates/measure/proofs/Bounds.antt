@@ -14,13 +14,13 @@ use lib.Seq.{getD-at}
 use lib.Ieee.{Float, nan}
 use Rattle.float.specs.Ops.{_⊘_, of}
 use Rattle.float.specs.Size.{sized}
-use Rattle.float.proofs.Bounds.{beyond-whole}
+use Rattle.float.proofs.Bounds.{beyond-whole, bounded-shift}
 use Rattle.float.proofs.Amounts.{Amount, amount-squares}
 use Rattle.lists.specs.Those.{picked}
 use Rattle.lists.specs.Firsts.{firsts}
 use Rattle.complex.specs.declared.value.Complex.{Complex}
 use Rattle.complex.specs.Value.{cSub, cDiv}
-use Rattle.complex.proofs.Bounds.{CBounded, cbounded-more, cbounded-shift, cbounded-sub, cbounded-div}
+use Rattle.complex.proofs.Bounds.{CBounded, cbounded-more, cbounded-sub, cbounded-div}
 use Rattle.row.specs.Samples.{Iq}
 use Rattle.row.specs.Window.{Rate, windowOf, blocks}
 use Rattle.row.specs.Blocks.{blockMean}
@@ -38,6 +38,10 @@ use Rattle.classes.specs.declared.class.BlockClass.{BlockClass}
 use Rattle.classes.specs.Class.{isClass}
 use Rattle.measure.specs.Powers.{power, powersOf}
 use Rattle.measure.specs.Left.{takenFrom, lessFit, lessFits, residualMean}
+
+-- a bound with its power of two taken apart
+cbounded-shift : (j : ℕ) {k a : ℕ} {z : Complex} → CBounded k (a * 2 ^ j) z → CBounded (k + j) a z
+cbounded-shift j p = record { re-part = bounded-shift j (p .re-part); im-part = bounded-shift j (p .im-part) }
 
 -- ---- gains that question 7 lets pass
 

@@ -7,7 +7,7 @@ use mathlib.Core.Bool.{true, false, and-false}
 use mathlib.Core.List.{List, [], _∷_}
 use lib.ListN.{length}
 use lib.Ieee.{Float, nan, inf, neg, lt, le, eq, isNan, ofBits, ofInt, round, add, sub, mul, div}
-use Rattle.float.specs.Ops.{of, fraction, zero}
+use Rattle.float.specs.Ops.{of, fraction, half, zero}
 use Rattle.float.specs.Compare.{maxOf}
 use Rattle.trig.specs.Logarithm.{mantissaOf, exponentOf, series, logOf, log10Of}
 use Rattle.trig.specs.Constants.{LN-2, LN-10}
@@ -16,7 +16,6 @@ use Rattle.complex.specs.declared.value.Complex.{Complex}
 use Rattle.rank.specs.declared.Percentile.{Percentile}
 use Rattle.rank.specs.declared.Percentile.the-variants.{Value, Nothing}
 use Rattle.rank.specs.Percentile.{percentileOf}
-use Rattle.rank.proofs.Examples.{no-median}
 use Rattle.fits.specs.declared.fit.ElementFit.{ElementFit}
 use Rattle.classes.specs.declared.class.BlockClass.{BlockClass}
 use Rattle.classes.specs.declared.class.BlockClass.the-variants.{Edge, Interior, Gap}
@@ -24,6 +23,10 @@ use Rattle.measure.specs.declared.residual.ResidualCheck.{ResidualCheck}
 use Rattle.measure.specs.Powers.{powersOf}
 use Rattle.measure.specs.Left.{residualMean}
 use Rattle.measure.specs.Residual.{ratioDb, floored, figuresOf, residualOf, cleanOf}
+
+no-median : percentileOf [] half ≡ Nothing
+unfolding percentileOf
+no-median = refl
 
 -- ---- a class with no block
 
