@@ -24,10 +24,10 @@ all-yes c = sym (c .before .evidence-no .ensures) ∙ c .if1 .left
 second-carrier-evidence-requires : tie.Need-second-carrier-evidence-requires
 unfolding sineTable
 second-carrier-evidence-requires c κs =
-    let s = c .before .before .before .before .before .before .before .before .before in
+    let s = c .before .before .before .before .before .before .before .before in
     let known =
     evidence-accepted (now (s .args .iq)) (s .args .fs) (s .args .carrier-hz) (s .args .carrier-step-hz) (now (s .args .elements)) (s .args .element-count) (now (s .args .fits)) (s .args .fit-count) (length (now (s .args .work)))
-    (all-yes (c .before .before .before)) in
+    (all-yes (c .before .before)) in
     (known .iq-ok, (known .rate-ok, (refl, (known .element-room, (known .fit-room, known .room)))))
 
 returns : tie.Need-returns
@@ -37,10 +37,10 @@ returns c = refuses _ _ _ _ (c .before .evidence-no .ensures) (c .if1 .taken)
 returns-2 : tie.Need-returns-2
 unfolding evidenceRule
 returns-2 c =
-    let measured = c .before .before .before .before in
-    let asked = measured .before .before .before .before in
+    let measured = c .before .before in
+    let asked = measured .before .before .before in
     accepts _ _ _ _ _ (asked .before .evidence-no .ensures) (asked .if1 .left) (evidence-result _ _ _ _ (measured .second-carrier-evidence .ensures) (omega arith))
 
 pub second-carrier-evidence-spec : {M : Type 1} → statement M
 second-carrier-evidence-spec =
-    tie.close (tie.spec (λ c κs. search needs) returns second-carrier-evidence-requires (λ c. search needs) (λ c. search needs) returns-2)
+    tie.close (tie.spec (λ c κs. search needs) returns second-carrier-evidence-requires (λ c. search needs) returns-2)

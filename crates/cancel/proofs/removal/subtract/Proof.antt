@@ -11,9 +11,33 @@ use Rattle.cancel.proofs.SubtractAccepted.{subtract-accepted}
 use Rattle.cancel.proofs.removal.subtract.Statement.{statement}
 use Rattle.cancel.proofs.removal.subtract.Tie as tie
 
+-- where no question was answered no
+all-yes : (c : tie.Else1) →
+    let s = c .before .before .before .before .before .before in
+    firstNo
+    (subtractQuestions (now (s .args .buf)) (s .args .fs) (s .args .carrier-hz) (s .args .carrier-step-hz) (now (s .args .elements)) (s .args .element-count) (now (s .args .fits)) (s .args .fit-count))
+    ≡ 0
+all-yes c = sym (c .before .subtract-no .ensures) ∙ c .if1 .left
+
+subtract-requires : tie.Need-subtract-requires
+unfolding sineTable
+subtract-requires c κs =
+    let s = c .before .before .before .before .before .before .before .before in
+    let known =
+    subtract-accepted (now (s .args .buf)) (s .args .fs) (s .args .carrier-hz) (s .args .carrier-step-hz) (now (s .args .elements)) (s .args .element-count) (now (s .args .fits)) (s .args .fit-count)
+    (all-yes (c .before .before)) in
+    (known .short, (known .fit-room, refl))
+
 returns : tie.Need-returns
 unfolding subtractRule
-returns c = ?
+returns c = refuses _ _ _ _ (c .before .subtract-no .ensures) (c .if1 .taken)
+
+returns-2 : tie.Need-returns-2
+unfolding subtractRule
+returns-2 c =
+    let done = c .before .before in
+    let asked = done .before .before .before in
+    accepts _ _ _ _ _ (asked .before .subtract-no .ensures) (asked .if1 .left) (done .subtract .ensures)
 
 pub subtract-spec : {M : Type 1} → statement M
-subtract-spec = ?
+subtract-spec = tie.close (tie.spec (λ c κs. search needs) (λ c. search needs) returns subtract-requires (λ c. search needs) returns-2)

@@ -24,10 +24,10 @@ all-yes c = sym (c .before .residual-no .ensures) ∙ c .if1 .left
 residual-check-requires : tie.Need-residual-check-requires
 unfolding sineTable
 residual-check-requires c κs =
-    let s = c .before .before .before .before .before .before .before .before .before in
+    let s = c .before .before .before .before .before .before .before .before in
     let known =
     residual-accepted (now (s .args .iq)) (s .args .fs) (s .args .carrier-hz) (s .args .carrier-step-hz) (now (s .args .elements)) (s .args .element-count) (now (s .args .fits)) (s .args .fit-count) (length (now (s .args .work)))
-    (all-yes (c .before .before .before)) in
+    (all-yes (c .before .before)) in
     (known .iq-ok, (known .rate-ok, (refl, (known .element-room, (known .fit-room, known .room)))))
 
 returns : tie.Need-returns
@@ -37,10 +37,10 @@ returns c = refuses _ _ _ _ (c .before .residual-no .ensures) (c .if1 .taken)
 returns-2 : tie.Need-returns-2
 unfolding residualRule
 returns-2 c =
-    let measured = c .before .before .before .before in
-    let asked = measured .before .before .before .before in
+    let measured = c .before .before in
+    let asked = measured .before .before .before in
     accepts _ _ _ _ _ (asked .before .residual-no .ensures) (asked .if1 .left) (residual-result _ _ _ _ (measured .residual-check .ensures) (omega arith))
 
 pub residual-check-spec : {M : Type 1} → statement M
 residual-check-spec =
-    tie.close (tie.spec (λ c κs. search needs) returns residual-check-requires (λ c. search needs) (λ c. search needs) returns-2)
+    tie.close (tie.spec (λ c κs. search needs) returns residual-check-requires (λ c. search needs) returns-2)
