@@ -10,13 +10,12 @@ use Rattle.row.specs.Samples.{Iq}
 use Rattle.row.proofs.Steps.{rate-is}
 use Rattle.elements.specs.declared.element.KeyedElement.{KeyedElement}
 use Rattle.elements.specs.Element.{ELEMENT, Handed, handed}
-use Rattle.elements.specs.Find.{elementsFound}
-use Rattle.elements.proofs.Recording.{listed-counted, all-counted, enough-places}
+use Rattle.elements.proofs.Recording.{all-counted, enough-places}
 use Rattle.fits.specs.declared.fit.ElementFit.{ElementFit}
 use Rattle.fits.specs.declared.estimate.Estimate.{Estimate}
 use Rattle.fits.specs.List.{FIT}
-use Rattle.fits.specs.Estimate.{fitsFound, refined, strongEstimate, strongElements, strongFits}
-use Rattle.fits.proofs.Fitted.{fitted-few}
+use Rattle.fits.specs.Estimate.{refined, strongEstimate, strongElements, strongFits}
+use Rattle.fits.proofs.Strong.{strong-counted}
 use Rattle.cancel.specs.Answers.{accepted, refused}
 use Rattle.cancel.specs.Questions.{firstNo}
 use Rattle.cancel.specs.Estimate.{estimateQuestions, EstimateResult, estimateRule}
@@ -51,12 +50,7 @@ estimate-result d e h i j k v w a b c g = rw (a, b, c, g)
 
 module _ (iq : List Float) (fs hint : Float) where
   strong-fitted : strongEstimate iq fs hint .fitted ≤ strongEstimate iq fs hint .found .listed
-  unfolding strongEstimate strongFits fitsFound
-  strong-fitted =
-      let carrier = refined iq fs hint in
-      let few = fitted-few iq fs carrier (elementsFound iq fs carrier) in
-      let n = listed-counted iq fs carrier in
-      omega arith
+  strong-fitted = let all = strong-counted iq fs hint in omega arith
 
   strong-listed : strongEstimate iq fs hint .found .listed ≤ stepBlocks iq fs / 2
   unfolding strongEstimate

@@ -8,7 +8,6 @@ use fits::fit_at;
 use row::step_blocks;
 ghost use mathlib.Core.Path.{_≡_};
 ghost use Prim.Native.Nat.{_/_};
-ghost use lib.ListN.{length};
 ghost use Rattle.row.specs.Window.{stepBlocks};
 ghost use Rattle.cancel.specs.Questions.{firstNo, recordingQuestions, countOk, carrierOk, placesOk, workOk, sizeOk, positionOk, elementOk, elementsOk, fitOk, fitsOk, estimateOk};
 

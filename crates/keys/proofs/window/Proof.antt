@@ -1,5 +1,4 @@
 -- `keys::window` meets its contract. Assumes nothing.
-use native.Mathlib.Omega.{arith}
 use borrow.Author.Needs.{needs}
 use Rattle.keys.proofs.Counts.{step-here}
 use Rattle.keys.proofs.window.Statement.{statement}
