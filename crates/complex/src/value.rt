@@ -72,10 +72,11 @@ impl Complex {
         self.re * self.re + self.im * self.im
     }
 
+    // The parts are named, so that they come in registers: `self.norm_sqr()` has them come in memory.
     pub fn norm(self) -> f64
         ensures { λ r. ⌜ r ≡ cNorm self ⌝ }
     {
-        float::sqrt(self.norm_sqr())
+        float::sqrt(Complex::new(self.re, self.im).norm_sqr())
     }
 
     pub fn arg(self) -> f64

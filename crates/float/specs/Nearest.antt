@@ -35,7 +35,7 @@ pub record Near (f : Format) (s : Bool) (a c : ℕ) (x : Float) : Type 0 where
 abbrev pub Overflows : Format → ℕ → ℕ → Type 0
 Overflows f a c = (2 ^ suc (prec f) - 1) * 2 ^ (suc (emax f) - prec f) * c ≤ 2 * a
 
--- x is ± a / c rounded to the format: an infinity if a / c is over, and else the nearest value, a tie to the even one
+-- x is ± a / c rounded to the format: an infinity if a / c overflows, and else the nearest value, a tie to the even one
 pub record Rounded (f : Format) (s : Bool) (a c : ℕ) (x : Float) : Type 0 where
   pub held : T (fits f x)
   pub infinite : (x ≡ inf s) ↔ Overflows f a c

@@ -1,7 +1,7 @@
 // The argument of a complex number, by a table of 65 arctangents.
 use crate::choice::pick;
 use crate::constants::PI;
-use crate::table::ARCTAN;
+use crate::table::arctan_at;
 use float::TWO_52;
 ghost use mathlib.Core.Path.{_≡_};
 ghost use Prim.Native.Nat.{_<_, _≤_};
@@ -25,8 +25,7 @@ fn entry(j: usize) -> f64
     requires { ⌜ j < 65 ⌝ }
     ensures { λ r. ⌜ r ≡ arctanAt j ⌝ }
 {
-    let table = ARCTAN;
-    float::exact(table[j] as usize) / TWO_52
+    float::exact(arctan_at(j) as usize) / TWO_52
 }
 
 // The arctangent of t by the nearest 64th.

@@ -1,4 +1,4 @@
--- `rank::ordinal` meets its contract. Assumes nothing.
+-- `rank::select::ordinal` meets its contract. Assumes nothing.
 use mathlib.Core.Path.{_≡_, sym, ap, _∙_, subst}
 use native.Mathlib.Omega.{arith}
 use borrow.Author.Needs.{needs}

@@ -1,4 +1,4 @@
--- `rank::value` meets its contract. Assumes nothing.
+-- `rank::select::value` meets its contract. Assumes nothing.
 use mathlib.Core.Path.{_≡_, refl, sym, ap, _∙_}
 use borrow.Author.Needs.{needs}
 use lib.Ieee.{nan, binary64, div, ofBits}

@@ -1,24 +1,16 @@
 -- `trig::argument::entry` meets its contract. Assumes nothing.
 use lib.Ieee.{ofBits, ofInt}
-use Rattle.trig.specs.Arctan.{arctanTable}
-use Rattle.trig.proofs.Rules.{arctan-small}
 use borrow.Author.Needs.{needs}
+use Rattle.trig.proofs.Rules.{arctan-small}
 use Rattle.trig.proofs.argument.entry.Statement.{statement}
 use Rattle.trig.proofs.argument.entry.Tie as tie
 
-mul-exact : tie.Need-mul-exact
-mul-exact c = search needs
-
-array-read-exact : tie.Need-array-read-exact
-array-read-exact c = search needs
-
 exact-requires : tie.Need-exact-requires
-unfolding arctanTable
-exact-requires c κs = arctan-small (c .args .j) (c .pre)
+exact-requires c κs = rw (c .arctan-at .ensures) (arctan-small (c .before .args .j) (c .before .pre))
 
 returns : tie.Need-returns
-unfolding arctanTable ofBits ofInt
-returns c = simp (c .exact .ensures)
+unfolding ofBits ofInt
+returns c = rw (c .exact .ensures, c .before .arctan-at .ensures)
 
 pub entry-spec : {M : Type 1} → statement M
-entry-spec = tie.close (tie.spec mul-exact array-read-exact exact-requires returns)
+entry-spec = tie.close (tie.spec (λ c κs. search needs) exact-requires returns)
