@@ -11,7 +11,7 @@ use Rattle.float.specs.Compare.{absOf, maxOf}
 use Rattle.float.specs.Whole.{floorOf, ceilOf, roundOf, wholeBy}
 use Rattle.float.specs.Root.{sqrtOf}
 use Rattle.float.specs.Remainder.{remEuclidOf}
-use Rattle.trig.specs.Constants.{TAU, PI}
+use Rattle.trig.specs.Consts.{TAU, PI}
 use Rattle.trig.specs.Sine.{sineTable}
 use Rattle.trig.specs.Circle.{sineAt, within, sinOf, cosOf}
 use Rattle.trig.specs.Argument.{arctanOf, argOf}

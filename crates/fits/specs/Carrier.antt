@@ -4,7 +4,7 @@ use mathlib.Core.List.{List}
 use lib.Ieee.{Float, lt}
 use Rattle.float.specs.Ops.{_⊖_, _⊗_, _⊘_, zero, two}
 use Rattle.float.specs.Compare.{maxOf}
-use Rattle.trig.specs.Constants.{TAU}
+use Rattle.trig.specs.Consts.{TAU}
 use Rattle.complex.specs.Value.{cNorm}
 use Rattle.constants.specs.Constants.{RISE_S}
 use Rattle.fits.specs.declared.fit.ElementFit.{ElementFit}

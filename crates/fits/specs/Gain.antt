@@ -9,7 +9,7 @@ use Rattle.trig.specs.Circle.{cosOf}
 use Rattle.complex.specs.declared.value.Complex.{Complex}
 use Rattle.complex.specs.Value.{cMul, cPolar}
 use Rattle.complex.specs.Rows.{cSum}
-use Rattle.trig.specs.Constants.{TAU}
+use Rattle.trig.specs.Consts.{TAU}
 use Rattle.row.specs.Blocks.{derot}
 use Rattle.lists.specs.Sums.{fSum}
 

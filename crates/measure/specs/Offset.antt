@@ -7,7 +7,7 @@ use lib.Dec.{eqb}
 use lib.Ieee.{Float, lt}
 use Rattle.float.specs.Ops.{_⊕_, _⊖_, _⊗_, _⊘_, minus-zero}
 use Rattle.lists.specs.Sums.{sumOver}
-use Rattle.trig.specs.Constants.{TAU}
+use Rattle.trig.specs.Consts.{TAU}
 use Rattle.complex.specs.declared.value.Complex.{Complex}
 use Rattle.complex.specs.Value.{cArg}
 use Rattle.measure.specs.declared.offset.Offset.{Offset}

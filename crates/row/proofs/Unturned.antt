@@ -8,7 +8,7 @@ use Rattle.float.specs.Ops.{_⊗_, of, one, fraction}
 use Rattle.float.specs.Compare.{absOf}
 use Rattle.float.specs.Remainder.{remEuclidOf}
 use Rattle.float.proofs.Counts.{whole-mul}
-use Rattle.trig.specs.Constants.{TAU}
+use Rattle.trig.specs.Consts.{TAU}
 use Rattle.trig.proofs.Edges.{sin-zero, cos-zero}
 use Rattle.complex.specs.Value.{cNew}
 use Rattle.row.specs.Blocks.{rotorOf}

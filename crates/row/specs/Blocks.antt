@@ -10,7 +10,7 @@ use Rattle.trig.specs.Circle.{sinOf, cosOf}
 use Rattle.complex.specs.declared.value.Complex.{Complex}
 use Rattle.complex.specs.Value.{cNew, cMul, cConj, cDiv}
 use Rattle.complex.specs.Rows.{zAt, cSum}
-use Rattle.trig.specs.Constants.{TAU}
+use Rattle.trig.specs.Consts.{TAU}
 
 -- `rotor`: (cyc × k).rem_euclid(1) × TAU, its cosine and its sine
 unfoldable pub rotorOf : Float → ℕ → Complex

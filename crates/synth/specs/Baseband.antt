@@ -4,7 +4,7 @@ use mathlib.Core.Bool.{cond}
 use lib.Ieee.{Float, eq}
 use Rattle.float.specs.Ops.{_⊖_, _⊗_, _⊘_, of, zero}
 use Rattle.float.specs.Remainder.{remEuclidOf}
-use Rattle.trig.specs.Constants.{TAU}
+use Rattle.trig.specs.Consts.{TAU}
 use Rattle.complex.specs.declared.value.Complex.{Complex}
 use Rattle.complex.specs.Value.{cZero, cMul, cPolar}
 use Rattle.elements.specs.declared.element.KeyedElement.{KeyedElement}

@@ -3,7 +3,7 @@
 use mathlib.Core.Bool.{cond}
 use lib.Ieee.{Float, neg, le}
 use Rattle.float.specs.Ops.{_⊕_, _⊗_, _⊘_, zero, half, one, two}
-use Rattle.trig.specs.Constants.{PI}
+use Rattle.trig.specs.Consts.{PI}
 use Rattle.trig.specs.Circle.{sinOf}
 use Rattle.constants.specs.Constants.{RISE_S}
 

@@ -21,7 +21,7 @@ use Rattle.float.specs.Compare.{absOf}
 use Rattle.float.specs.Whole.{halfUp, roundOf, wholeBy}
 use Rattle.float.proofs.Exactly.{neg-round}
 use Rattle.float.proofs.Compared.{yes, le→value}
-use Rattle.trig.specs.Constants.{PI}
+use Rattle.trig.specs.Consts.{PI}
 use Rattle.trig.specs.Circle.{scaled, placed, restOf, indexOf, within}
 use Rattle.float.proofs.Counts.{whole-value}
 use Rattle.float.proofs.Sums.{add-over, mul-over, sum-plus, sum-less}

@@ -2,7 +2,7 @@
 use mathlib.Core.Path.{_≡_, refl}
 use lib.Ieee.{round, ofBits}
 use Rattle.float.specs.Ops.{bits}
-use Rattle.trig.specs.Constants.{PI, TAU, LN-2, LN-10}
+use Rattle.trig.specs.Consts.{PI, TAU, LN-2, LN-10}
 
 pub pi-bits : PI ≡ bits 0x4009_21fb_5444_2d18
 unfolding PI round ofBits

@@ -9,7 +9,7 @@ use lib.Ieee.{Float, round, div, le, ofInt}
 use Rattle.float.specs.Ops.{of, fraction, zero as nought, _⊘_}
 use Rattle.float.specs.Compare.{absOf}
 use Rattle.float.proofs.Bounds.{Bounded, bounded-zero, bounded-more, bounded-shift, bounded-neg, bounded-cond, bounded-add, bounded-sub, bounded-mul, bounded-div, bounded-round, bounded-whole, bounded-ratio, bounded-le, beyond-whole}
-use Rattle.trig.specs.Constants.{PI}
+use Rattle.trig.specs.Consts.{PI}
 use Rattle.trig.specs.Sine.{sineTable}
 use Rattle.trig.proofs.Rules.{sine-small}
 use Rattle.trig.specs.Circle.{restOf, smallSine, smallCosine, entryOf, sineAt, sinOf, cosOf}

@@ -1,6 +1,6 @@
 // The argument of a complex number, by a table of 65 arctangents.
 use crate::choice::pick;
-use crate::constants::PI;
+use crate::consts::PI;
 use crate::table::arctan_at;
 use float::TWO_52;
 ghost use mathlib.Core.Path.{_≡_};

@@ -1,6 +1,6 @@
 // The sine and the cosine of an angle, by a table of 1,025 sines of the first quarter of a turn.
 use crate::choice::pick;
-use crate::constants::PI;
+use crate::consts::PI;
 use float::TWO_52;
 ghost use mathlib.Core.Path.{_≡_};
 ghost use mathlib.Core.Bool.{true, cond};

@@ -2,7 +2,7 @@
 pub mod argument;
 pub mod choice;
 pub mod circle;
-pub mod constants;
+pub mod consts;
 pub mod logarithm;
 pub mod table;
 
@@ -11,8 +11,8 @@ pub use circle::SinCos;
 pub use circle::cos;
 pub use circle::sin;
 pub use circle::sin_cos;
-pub use constants::PI;
-pub use constants::TAU;
+pub use consts::PI;
+pub use consts::TAU;
 pub use logarithm::log10;
 pub use table::SINE;
 pub use table::sine_table;

@@ -1,6 +1,6 @@
 // The logarithm to base 10: of m by the series of the inverse hyperbolic tangent, and of 2^e by e.
-use crate::constants::LN_2;
-use crate::constants::LN_10;
+use crate::consts::LN_2;
+use crate::consts::LN_10;
 ghost use mathlib.Core.Path.{_≡_};
 ghost use Rattle.float.specs.Ops.{of, _⊖_};
 ghost use Rattle.trig.specs.Logarithm.{series, logOf, log10Of};

@@ -1,6 +1,6 @@
 -- `trig::argument::nonzero` meets its contract. Assumes nothing.
 use lib.Ieee.{ofBits, ofInt}
-use Rattle.trig.specs.Constants.{PI}
+use Rattle.trig.specs.Consts.{PI}
 use Rattle.trig.proofs.Ratios.{step-small}
 use borrow.Author.Needs.{needs}
 use Rattle.trig.proofs.argument.nonzero.Statement.{statement}

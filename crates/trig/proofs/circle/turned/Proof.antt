@@ -1,7 +1,7 @@
 -- `trig::circle::turned` meets its contract. Assumes nothing.
 use native.Mathlib.Omega.{arith}
 use lib.Ieee.{ofBits, ofInt}
-use Rattle.trig.specs.Constants.{PI}
+use Rattle.trig.specs.Consts.{PI}
 use Rattle.trig.proofs.Angles.{scaled-small, place-number, place-is, rest-is}
 use Rattle.trig.proofs.circle.turned.Statement.{statement}
 use Rattle.trig.proofs.circle.turned.Tie as tie

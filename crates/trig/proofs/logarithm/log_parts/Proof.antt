@@ -1,6 +1,6 @@
 -- `trig::logarithm::log_parts` meets its contract. Assumes nothing.
 use lib.Ieee.{ofBits, ofInt}
-use Rattle.trig.specs.Constants.{LN-2, LN-10}
+use Rattle.trig.specs.Consts.{LN-2, LN-10}
 use Rattle.trig.specs.Logarithm.{logOf}
 use borrow.Author.Needs.{needs}
 use Rattle.trig.proofs.logarithm.log_parts.Statement.{statement}
