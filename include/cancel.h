@@ -30,6 +30,7 @@
  *   cancel_find_elements                                    asks 1 2 3 4 5 6
  *   cancel_fit_elements                                     asks 1 2 3 4 5 6 7
  *   cancel_estimate_strong                                  asks 1 2 3 4 5 6
+ *   cancel_residual_check, cancel_second_carrier_evidence   asks 1 2 3 6 7
  */
 #ifndef CANCEL_H
 #define CANCEL_H
@@ -47,6 +48,8 @@ extern "C" {
 #define CANCEL_FIND_FIGURES 4
 #define CANCEL_FIT_FIGURES 1
 #define CANCEL_ESTIMATE_FIGURES 7
+#define CANCEL_RESIDUAL_FIGURES 5
+#define CANCEL_EVIDENCE_FIGURES 5
 
 /*
  * Key-down elements of the carrier at carrier_hz, an offset from the recording's centre.
@@ -72,6 +75,27 @@ uint64_t cancel_fit_elements(const float *iq, size_t iq_len, double fs, double c
 uint64_t cancel_estimate_strong(const float *iq, size_t iq_len, double fs, double hint_hz,
                                 double *elements, size_t elements_len, double *fits, size_t fits_len,
                                 double *work, size_t work_len, double *figures);
+
+/*
+ * What taking a given estimate off would leave of the strong sender, over the level of its neighbour. The estimate is
+ * its carrier, its carrier step, and the first element_count elements and fit_count fits of two lists.
+ * figures, 5: edge_over_neighbour_db, interior_over_neighbour_db (+infinity where a side is missing), edge_blocks,
+ * interior_blocks, gap_blocks.
+ */
+uint64_t cancel_residual_check(const float *iq, size_t iq_len, double fs, double carrier_hz, double carrier_step_hz,
+                               const double *elements, size_t elements_len, size_t element_count,
+                               const double *fits, size_t fits_len, size_t fit_count,
+                               double *work, size_t work_len, double *figures);
+
+/*
+ * What a second carrier shows in the gaps of a given estimate.
+ * figures, 5: gap_blocks, hot_fraction, offset present (0 or 1), offset_hz (0 where absent), coherence.
+ */
+uint64_t cancel_second_carrier_evidence(const float *iq, size_t iq_len, double fs,
+                                        double carrier_hz, double carrier_step_hz,
+                                        const double *elements, size_t elements_len, size_t element_count,
+                                        const double *fits, size_t fits_len, size_t fit_count,
+                                        double *work, size_t work_len, double *figures);
 
 /* The arithmetic that the calls are made of, open for tests. */
 double cancel_sin(double x);
