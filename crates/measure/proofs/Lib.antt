@@ -15,7 +15,8 @@
 --           their ends
 -- Reach     what the residual check depends on: `residual-reach`; `block-agree`, `left-alike`, `class-alike`
 -- Bounds    the powers that are ranked are finite and have the sign plus: `left-amount`, `left-ranked`
--- Counted   a loop that counts: `count-none`, `count-yes`, `count-no`, `count-done`; `count-there`; `picked-yes`, `picked-no`
+-- Counted   a loop that counts: `count-none`, `count-yes`, `count-no`, `count-done`; `count-there`; one more that is
+--           picked: `picked-yes`, `picked-no`
 -- References  the rows of powers to both sides of the carrier, and the reference: `both-held`, `reference-is`
 -- Paired    gap blocks above a level and pairs of them: the ways out of each test, and the loops over the blocks
 -- Offsets   the power at an offset, the strongest of three: `strongest-is`, `offset-none`, `offset-some`
