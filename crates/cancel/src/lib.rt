@@ -8,6 +8,7 @@ mod questions;
 mod removal;
 mod residual;
 
+pub use elements::Found;
 pub use estimate::EstimateAnswer;
 pub use estimate::estimate_strong;
 pub use evidence::EvidenceAnswer;
@@ -16,6 +17,7 @@ pub use find::FindAnswer;
 pub use find::find_elements;
 pub use fit::FitAnswer;
 pub use fit::fit_elements;
+pub use fits::Estimate;
 pub use measure::Hypothesis;
 pub use measure::Offset;
 pub use measure::ResidualCheck;

@@ -1,5 +1,5 @@
 // What a recording's blocks show once a strong sender's estimate is known: cancel.rs's residual_check and
-// second_carrier_evidence.
+// second_carrier_evidence, and classify.
 pub mod evidence;
 pub mod hypothesis;
 pub mod left;
