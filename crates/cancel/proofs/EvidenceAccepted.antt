@@ -1,22 +1,21 @@
 -- `second_carrier_evidence`: what it goes on with where every answer is yes, and what its promise says. Assumes nothing.
 use Prim.Native.Nat.{ℕ, _*_, _≤_}
-use mathlib.Core.Path.{_≡_, refl, ap}
+use mathlib.Core.Path.{_≡_, refl}
 use mathlib.Core.List.{List}
 use lib.ListN.{length}
 use lib.Ieee.{Float}
 use Rattle.row.specs.Window.{Rate, stepBlocks}
 use Rattle.row.specs.Samples.{Iq}
 use Rattle.row.proofs.Steps.{rate-is}
-use Rattle.elements.specs.Element.{ELEMENT, elementsIn}
-use Rattle.fits.specs.List.{FIT, fitsIn}
+use Rattle.elements.specs.Element.{ELEMENT}
+use Rattle.fits.specs.List.{FIT}
 use Rattle.measure.specs.declared.evidence.SecondCarrierEvidence.{SecondCarrierEvidence}
-use Rattle.measure.specs.Evidence.{evidenceCheckOf}
-use Rattle.cancel.specs.Answers.{accepted, refused}
+use Rattle.cancel.specs.Answers.{refused}
 use Rattle.cancel.specs.Questions.{firstNo}
 use Rattle.cancel.specs.Evidence.{evidenceQuestions, EvidenceResult, evidenceRule}
 use Rattle.cancel.proofs.FirstNo.{yes-at}
 use Rattle.cancel.proofs.Given.{estimate-sized}
-use Rattle.cancel.proofs.Accepted.{recording-is, work-room, refused-by, accepted-by}
+use Rattle.cancel.proofs.Accepted.{recording-is, work-room, refused-by}
 
 pub record EvidenceAccepted (iq : List Float) (fs : Float) (elements : List Float) (element-count : ℕ) (fits : List Float) (fit-count work : ℕ) : Type 0 where
   pub iq-ok : Iq iq
@@ -42,15 +41,9 @@ evidence-accepted iq fs hz step elements element-count fits fit-count work all =
 pub evidence-result : (r s : SecondCarrierEvidence) (v w : ℕ) → r ≡ s → v ≡ w → _≡_ {A = EvidenceResult} (record { evidence = r; work = v }) (record { evidence = s; work = w })
 evidence-result r s v w a b = rw (a, b)
 
--- ---- what its promise says of a refusal, and of an accepted call
+-- ---- what its promise says of a refusal
 
 module _ (iq : List Float) (fs hz step : Float) (elements : List Float) (element-count : ℕ) (fits : List Float) (fit-count : ℕ) (work : List Float) where
   pub evidence-refused : (n : ℕ) (lent : List (List Float)) → refused n lent ≡ evidenceRule iq fs hz step elements element-count fits fit-count work → n ≡ 0 → ⊥
   unfolding evidenceRule
   evidence-refused n lent e = refused-by _ _ _ n lent e
-
-  pub evidence-done : (r : EvidenceResult) → accepted r ≡ evidenceRule iq fs hz step elements element-count fits fit-count work
-      → (firstNo (evidenceQuestions iq fs hz step elements element-count fits fit-count (length work)) ≡ 0)
-      × (r .evidence ≡ evidenceCheckOf iq fs hz (fitsIn fits fit-count) (elementsIn elements element-count))
-  unfolding evidenceRule
-  evidence-done r e = let told = accepted-by _ _ _ r e in (told .0, ap (λ (r : EvidenceResult). r .evidence) (told .1))

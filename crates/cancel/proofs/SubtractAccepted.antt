@@ -1,19 +1,16 @@
--- `subtract`: what it goes on with where every answer is yes, and what its promise says. Assumes nothing.
+-- `subtract`: what it goes on with where every answer is yes. Assumes nothing.
 use Prim.Native.Nat.{ℕ, _*_, _≤_}
 use mathlib.Core.Path.{_≡_, refl}
 use mathlib.Core.List.{List}
 use lib.ListN.{length}
 use lib.Ieee.{Float}
-use Rattle.float.specs.Ops.{_⊘_}
 use Rattle.row.specs.Samples.{Iq}
-use Rattle.fits.specs.List.{FIT, fitsIn}
-use Rattle.synth.specs.Removal.{subtracted}
-use Rattle.cancel.specs.Answers.{accepted, refused}
+use Rattle.fits.specs.List.{FIT}
 use Rattle.cancel.specs.Questions.{firstNo}
-use Rattle.cancel.specs.Removal.{subtractQuestions, subtractRule}
+use Rattle.cancel.specs.Removal.{subtractQuestions}
 use Rattle.cancel.proofs.FirstNo.{yes-at}
 use Rattle.cancel.proofs.Given.{estimate-sized}
-use Rattle.cancel.proofs.Accepted.{recording-is, refused-by, accepted-by}
+use Rattle.cancel.proofs.Accepted.{recording-is}
 
 pub record SubtractAccepted (buf fits : List Float) (fit-count : ℕ) : Type 0 where
   pub short : length buf ≤ 2097152
@@ -27,15 +24,3 @@ subtract-accepted buf fs hz step elements element-count fits fit-count all =
       short = recording-is buf (yes 1) (yes 2) .short;
       fit-room = estimate-sized hz step elements element-count fits fit-count (yes 3) .fit-room;
     }
-
--- ---- what its promise says of a refusal, and of an accepted call
-
-module _ (buf : List Float) (fs hz step : Float) (elements : List Float) (element-count : ℕ) (fits : List Float) (fit-count : ℕ) where
-  pub subtract-refused : (n : ℕ) (lent : List (List Float)) → refused n lent ≡ subtractRule buf fs hz step elements element-count fits fit-count → n ≡ 0 → ⊥
-  unfolding subtractRule
-  subtract-refused n lent e = refused-by _ _ _ n lent e
-
-  pub subtract-done : (r : List Float) → accepted r ≡ subtractRule buf fs hz step elements element-count fits fit-count
-      → (firstNo (subtractQuestions buf fs hz step elements element-count fits fit-count) ≡ 0) × (r ≡ subtracted fs (hz ⊘ fs) buf (fitsIn fits fit-count))
-  unfolding subtractRule
-  subtract-done r e = let told = accepted-by _ _ _ r e in (told .0, told .1)

@@ -1,9 +1,7 @@
 -- The hypothesis (01, part 7: `classify` answers OneSignal, TwoSignalCw with its offset, NonCw or Unresolved). It
 -- refuses nothing, NaN included. Definitions only.
-use Prim.Native.Nat.{ℕ}
 use mathlib.Core.Bool.{Bool, _&&_, cond}
 use lib.Ieee.{Float, lt, le}
-use Rattle.float.specs.Ops.{zero}
 use Rattle.float.specs.Compare.{absOf}
 use Rattle.constants.specs.Constants.{ONE_SIGNAL_MAX_HOT, NON_CW_MIN_HOT, MIN_COHERENCE, MIN_OFFSET_HZ, MAX_OFFSET_HZ}
 use Rattle.measure.specs.declared.offset.Offset.{Offset}
@@ -26,16 +24,3 @@ unfoldable pub hypothesisOf : SecondCarrierEvidence → Hypothesis
 hypothesisOf e =
     cond (lt (e .«hot_fraction») ONE_SIGNAL_MAX_HOT) OneSignal
     (cond (lt NON_CW_MIN_HOT (e .«hot_fraction»)) NonCw (hypothesisBetween (e .«offset_hz») (e .coherence)))
-
--- the number of each hypothesis (OneSignal 0, TwoSignalCw 1, NonCw 2, Unresolved 3), and its offset, 0 but for two
-abbrev pub hypothesisNumber : Hypothesis → ℕ
-hypothesisNumber OneSignal = 0
-hypothesisNumber (TwoSignalCw f) = 1
-hypothesisNumber NonCw = 2
-hypothesisNumber Unresolved = 3
-
-abbrev pub hypothesisOffset : Hypothesis → Float
-hypothesisOffset OneSignal = zero
-hypothesisOffset (TwoSignalCw f) = f
-hypothesisOffset NonCw = zero
-hypothesisOffset Unresolved = zero
