@@ -1,4 +1,5 @@
--- `second_carrier_evidence`: what it goes on with where every answer is yes, and what its promise says. Assumes nothing.
+-- `second_carrier_evidence`: what it goes on with where every answer is yes, and what its promise says. Assumes
+-- nothing.
 use Prim.Native.Nat.{ℕ, _*_, _≤_}
 use mathlib.Core.Path.{_≡_, refl}
 use mathlib.Core.List.{List}

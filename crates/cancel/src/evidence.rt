@@ -46,7 +46,8 @@ fn evidence_no(
     0
 }
 
-// Rust: second_carrier_evidence. It asks first; the estimate is given as its carrier, its carrier step and two flat lists.
+// Rust: second_carrier_evidence. It asks first; the estimate is given as its carrier, its carrier step and two flat
+// lists.
 pub fn second_carrier_evidence(
     iq: &[f32],
     fs: f64,

@@ -1,4 +1,5 @@
--- A slice that holds the numbers of a row of classes: what painting makes of it, and what `classify_blocks` leaves in it.
+-- A slice that holds the numbers of a row of classes: what painting makes of it, and what `classify_blocks` leaves in
+-- it.
 use Prim.Native.Nat.{ℕ, _<_}
 use native.Mathlib.Omega.{arith}
 use mathlib.Core.Path.{_≡_, refl, sym, ap, _∙_}

@@ -49,7 +49,8 @@ module _ (l : List Float) (x : Float) where
           ∙ getD-painted p b g
           ∙ sym (getD-painted q b g ∙ ap (λ (s : Bool). cond s x (getD l b nan)) (e b i))
 
-  -- ---- a loop from place a on that stores x where a test passes: before it, a turn that stores, one that does not, and
+  -- ---- a loop from place a on that stores x where a test passes: before it, a turn that stores, one that does not,
+  -- and
   -- after it
   module _ (a : ℕ) (p : ℕ → Bool) where
     next-other : (k b : ℕ) → (b ≡ k → ⊥) → between a (k + 1) p b ≡ between a k p b

@@ -1,4 +1,5 @@
--- Not needed to read a public promise: what the functions behind `classify_blocks` ensure: the numbers that a slice of classes then holds. Definitions only.
+-- Not needed to read a public promise: what the functions behind `classify_blocks` ensure: the numbers that a slice
+-- of classes then holds. Definitions only.
 use Prim.Native.Nat.{ℕ}
 use mathlib.Core.Bool.{Bool, _&&_, _||_, cond}
 use mathlib.Core.List.{List}

@@ -1,4 +1,5 @@
--- Not needed to read a public promise: what the functions behind the measures require and ensure of the work slice. Definitions only.
+-- Not needed to read a public promise: what the functions behind the measures require and ensure of the work slice.
+-- Definitions only.
 use Prim.Native.Nat.{ℕ, _+_, _*_, _≤_, _<_}
 use mathlib.Core.Path.{_≡_}
 use mathlib.Core.Bool.{Bool}

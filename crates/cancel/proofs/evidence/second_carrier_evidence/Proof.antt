@@ -1,4 +1,5 @@
--- `cancel::second_carrier_evidence` meets its contract: the first no is the answer, and where there is none, what the work
+-- `cancel::second_carrier_evidence` meets its contract: the first no is the answer, and where there is none, what the
+-- work
 -- below measures. Assumes nothing.
 use native.Mathlib.Omega.{arith}
 use mathlib.Core.Path.{_≡_, refl, sym, _∙_}
