@@ -22,6 +22,7 @@
 -- Offsets   the power at an offset, the strongest of three: `strongest-is`, `offset-none`, `offset-some`
 -- Same      what the evidence depends on: `reference-same`, `with-same`, `evidence-same`
 -- Evidences  the evidence of a work slice, and of a prepared one: `evidence-is`, `evidence-prepared`, `check-is`
+-- Measured  both measures from one prepared slice: `classes-held`, `classes-counted`, `measures-are`
 -- Levels    the powers are amounts: `power-amount`, `side-amounts`; their order is that of the values: `order-is`
 -- Absence   the offset is absent exactly when there is no pair: `absent-exactly`, `present-exactly`
 -- Pushed    the Rust's loop over `gap_idx.windows(2)`: `rust-products`, `rust-blocks`
@@ -43,6 +44,7 @@ pub mod Paired
 pub mod Offsets
 pub mod Same
 pub mod Evidences
+pub mod Measured
 pub mod Levels
 pub mod Absence
 pub mod ReachEvidence

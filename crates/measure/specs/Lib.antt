@@ -9,3 +9,4 @@ pub mod Pushed
 pub mod Offset
 pub mod Evidence
 pub mod Hypothesis
+pub mod Both

@@ -1,0 +1,8 @@
+-- Laws on the run, by subject.
+
+-- Takes     the four conditions, one after the other: `not-two`, `too-few`, `step-small`, `step-large`
+-- Counts    the counts of an estimate: `listed-room`, `fitted-room`, `fitted-le-listed`, `skipped-is`
+-- Ran       from what each step ensures to the run's definition: `run-is`
+pub mod Takes
+pub mod Counts
+pub mod Ran

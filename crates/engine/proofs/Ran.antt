@@ -1,0 +1,76 @@
+-- The run: from what each of its steps ensures to its definition. Assumes nothing.
+use Prim.Native.Nat.{ℕ, _-_, _*_}
+use mathlib.Core.Path.{_≡_, ap, _∙_}
+use mathlib.Core.Bool.{Bool, cond}
+use mathlib.Core.List.{List}
+use lib.ListN.{length}
+use lib.Ieee.{Float}
+use Rattle.float.specs.Ops.{_⊘_}
+use Rattle.row.specs.Window.{stepOf, samples}
+use Rattle.elements.specs.Element.{ELEMENT, elementsIn, handed, handedElements}
+use Rattle.elements.proofs.Records.{elements-read}
+use Rattle.fits.specs.declared.estimate.Estimate.{Estimate}
+use Rattle.fits.specs.List.{FIT, fitsIn, handedFits}
+use Rattle.fits.specs.Estimate.{refined, carrierStep, strongElements, strongFits, strongEstimate}
+use Rattle.fits.proofs.Records.{fits-read}
+use Rattle.synth.specs.Removal.{subtracted}
+use Rattle.measure.specs.declared.both.Measures.{Measures}
+use Rattle.measure.specs.declared.hypothesis.Hypothesis.{Hypothesis}
+use Rattle.measure.specs.Both.{measuresOf}
+use Rattle.measure.specs.Hypothesis.{hypothesisOf}
+use Rattle.engine.specs.declared.run.Figures.{Figures}
+use Rattle.engine.specs.Run.{takes, runEvidence, runResidual, runTaken, runOf, runBuffer}
+use Rattle.engine.proofs.Counts.{skipped-is}
+
+module _ (iq : List Float) (fs hint : Float) (e : Estimate) (q : e ≡ strongEstimate iq fs hint) (els l fits k : List Float)
+    (p : handedElements els (e .found .listed) ≡ handed ELEMENT (strongElements iq fs hint) l)
+    (g : handedFits fits (e .fitted) ≡ handed FIT (strongFits iq fs hint) k) where
+  -- the fits that the list holds
+  fits-are : fitsIn fits (e .fitted) ≡ strongFits iq fs hint
+  fits-are = fits-read fits k (e .fitted) (strongFits iq fs hint) g
+
+  carrier-is : e .«carrier_hz» ≡ refined iq fs hint
+  unfolding strongEstimate
+  carrier-is = rw q
+
+  step-is : e .«carrier_step_hz» ≡ carrierStep iq fs hint
+  unfolding strongEstimate
+  step-is = rw q
+
+  fitted-is : e .fitted ≡ length (strongFits iq fs hint)
+  unfolding strongEstimate
+  fitted-is = rw q
+
+  -- both measures, at the estimate that the lists hold
+  measures-of : (m : Measures) → m ≡ measuresOf iq fs (e .«carrier_hz») (fitsIn fits (e .fitted)) (elementsIn els (e .found .listed))
+      → m ≡ measuresOf iq fs (refined iq fs hint) (strongFits iq fs hint) (strongElements iq fs hint)
+  measures-of m h = h ∙ rw (fits-are, elements-read els l (e .found .listed) (strongElements iq fs hint) p, carrier-is)
+
+  -- the whole
+  pub run-is : (step : ℕ) (m : Measures) (h : Hypothesis) (taken : Bool) (buf : List Float) → step ≡ stepOf fs
+      → m ≡ measuresOf iq fs (e .«carrier_hz») (fitsIn fits (e .fitted)) (elementsIn els (e .found .listed))
+      → h ≡ hypothesisOf (m .evidence) → taken ≡ takes h (e .fitted) (e .«carrier_step_hz») (m .residual)
+      → buf ≡ cond taken (subtracted fs (e .«carrier_hz» ⊘ fs) iq (fitsIn fits (e .fitted))) iq
+      → (_≡_ {A = Figures}
+      (record {
+        samples = samples iq;
+        window = 8 * step;
+        estimate = e;
+        skipped = e .found .listed - e .fitted;
+        blocks = m .blocks;
+        classes = m .classes;
+        residual = m .residual;
+        evidence = m .evidence;
+        hypothesis = h;
+        taken = taken;
+      })
+      (runOf iq fs hint))
+      × (buf ≡ runBuffer iq fs hint)
+  unfolding measuresOf runTaken runOf runBuffer
+  run-is step m h taken buf s made told says left =
+      let all = measures-of m made in
+      let residual : m .residual ≡ runResidual iq fs hint = ap (λ (x : Measures). x .residual) all in
+      let evidence : m .evidence ≡ runEvidence iq fs hint = ap (λ (x : Measures). x .evidence) all in
+      let hypothesis : h ≡ hypothesisOf (runEvidence iq fs hint) = told ∙ ap hypothesisOf evidence in
+      let taking : taken ≡ runTaken iq fs hint = says ∙ rw (hypothesis, fitted-is, step-is, residual) in
+      (rw (s, skipped-is iq fs hint e q, q, all, hypothesis, taking), left ∙ rw (taking, carrier-is, fits-are))

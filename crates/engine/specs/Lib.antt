@@ -1,0 +1,2 @@
+-- What the contracts of `engine` cite.
+pub mod Run

@@ -1,0 +1,70 @@
+// Both measures at an estimate, from one preparation of the work slice.
+use crate::evidence::SecondCarrierEvidence;
+use crate::evidence::evidence;
+use crate::prepare::prepare;
+use crate::residual::ResidualCheck;
+use crate::residual::residual;
+use classes::ClassCounts;
+use classes::count_classes;
+ghost use mathlib.Core.Path.{_≡_};
+ghost use Prim.Native.Nat.{_*_, _≤_};
+ghost use lib.ListN.{length};
+ghost use Rattle.trig.specs.Sine.{sineTable};
+ghost use Rattle.row.specs.Samples.{Iq};
+ghost use Rattle.row.specs.Window.{Rate, stepBlocks};
+ghost use Rattle.elements.specs.Element.{elementsIn};
+ghost use Rattle.fits.specs.List.{fitsIn};
+ghost use Rattle.measure.specs.Both.{measuresOf};
+
+// The blocks, how many have each class, and both measures.
+pub struct Measures {
+    pub blocks: usize,
+    pub classes: ClassCounts,
+    pub residual: ResidualCheck,
+    pub evidence: SecondCarrierEvidence,
+}
+
+// Rust: residual_check and second_carrier_evidence, which make the block means and the classes once each. The residual
+// check leaves what is prepared as it was.
+pub fn measure_both(
+    iq: &[f32],
+    fs: f64,
+    carrier: f64,
+    elements: &[f64],
+    element_count: usize,
+    fits: &[f64],
+    fit_count: usize,
+    work: &mut [f64],
+    sine: &[u64; 1025],
+) -> Measures
+    requires { ⌜ Iq (now iq) ⌝ }
+    requires { ⌜ Rate fs ⌝ }
+    requires { ⌜ now sine ≡ sineTable ⌝ }
+    requires { ⌜ 4 * «element_count» ≤ length (now elements) ⌝ }
+    requires { ⌜ 8 * «fit_count» ≤ length (now fits) ⌝ }
+    requires { ⌜ 4 * stepBlocks (now iq) fs ≤ length (now work) ⌝ }
+    ensures { λ r. ⌜ r ≡ measuresOf (now (iq .entry)) fs carrier (fitsIn (now (fits .entry)) «fit_count») (elementsIn (now (elements .entry)) «element_count») ⌝ }
+{
+    let nb = prepare(
+        iq,
+        fs,
+        carrier,
+        elements,
+        element_count,
+        fits,
+        fit_count,
+        work,
+        sine,
+    );
+    let from = 2 * nb;
+    let past = 3 * nb;
+    let classes = count_classes(&work[from..past]);
+    let check = residual(work, nb, fs, fits, fit_count, sine);
+    let found = evidence(iq, fs, carrier, work, nb, sine);
+    Measures {
+        blocks: nb,
+        classes,
+        residual: check,
+        evidence: found,
+    }
+}
