@@ -6,12 +6,16 @@
 --             what a yes says of them: `all-timed`, `elements-fit`, `fit-sized`, `fits-fit`, `estimate-sized`
 -- Accepted    what yes to questions 2, 3, 5 and 6 shows: `recording-is`, `element-places`, `fit-places`, `work-room`;
 --             the two ways out of a call, and what they show: `refuses`, `accepts`, `refused-by`, `accepted-by`
--- FindAccepted, FitAccepted, EstimateAccepted, ResidualAccepted, EvidenceAccepted, SubtractAccepted     of each call:
---             what it goes on with, `find-accepted`; its result by its parts, `find-result`; what its promise says:
---             `find-refused`, `find-done`; `estimate-counts`
+-- FindAccepted, FitAccepted, EstimateAccepted, ResidualAccepted, EvidenceAccepted, SubtractAccepted, RunAccepted
+--             of each call: what it goes on with, `find-accepted`; its result by its parts, `find-result`; what its
+--             promise says: `find-refused`, `find-done`; `estimate-counts`
 -- Handed      theorems on what an accepted call hands out, in 01's terms: `find-exactly`, `find-nothing`;
 --             `fit-elements-are`, `fit-each`, `fit-skipped`; `estimate-exactly`, `estimate-nothing`,
 --             `estimate-elements-are`, `estimate-each`, `estimate-skipped`
+-- RunPromises     the user's third demand, of every accepted run: `key-downs-balance`, `listed-balance`, `blocks-balance`;
+--             `classes-are`, `residual-is`, `evidence-is`, `hypothesis-is`; `list-exactly`, `list-nothing`;
+--             `taken-exactly`, `kept-unchanged`, `taken-leaves`, `outside-unchanged`; `same-residual`, `same-evidence`,
+--             `same-hypothesis`
 pub mod FirstNo
 pub mod Given
 pub mod Accepted
@@ -22,3 +26,5 @@ pub mod ResidualAccepted
 pub mod EvidenceAccepted
 pub mod SubtractAccepted
 pub mod Handed
+pub mod RunAccepted
+pub mod RunPromises

@@ -7,3 +7,4 @@ pub mod Estimate
 pub mod Residual
 pub mod Evidence
 pub mod Removal
+pub mod Running

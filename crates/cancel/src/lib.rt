@@ -7,8 +7,10 @@ mod fit;
 mod questions;
 mod removal;
 mod residual;
+mod running;
 
 pub use elements::Found;
+pub use engine::Figures;
 pub use estimate::EstimateAnswer;
 pub use estimate::estimate_strong;
 pub use evidence::EvidenceAnswer;
@@ -27,3 +29,5 @@ pub use removal::SubtractAnswer;
 pub use removal::subtract;
 pub use residual::ResidualAnswer;
 pub use residual::residual_check;
+pub use running::RunAnswer;
+pub use running::run;

@@ -1,0 +1,191 @@
+-- What every accepted run answers and leaves in what it was lent (the user's third demand): the balances, each figure
+-- from the lists that it hands out, the list, the word kept or taken with the buffer, and what two runs share. Assumes
+-- nothing.
+use Prim.Native.Nat.{ℕ, _+_, _-_, _<_}
+use native.Mathlib.Omega.{arith}
+use mathlib.Core.Path.{_≡_, refl, sym, ap, _∙_, subst}
+use mathlib.Core.Logic.{_≢_, _⊎_, ⊎-elim}
+use mathlib.Core.Bool.{Bool, true, false, cond}
+use mathlib.Core.List.{List, [], map, List·Memᴰ}
+use lib.ListN.{length}
+use lib.Ieee.{Float}
+use Rattle.float.specs.Ops.{_⊘_}
+use Rattle.complex.specs.Rows.{zAt}
+use Rattle.row.specs.Window.{stepOf, windowOf, samples, blocks}
+use Rattle.row.specs.Envelope.{rowOf, rowLength}
+use Rattle.row.proofs.Bounds.{Singles}
+use Rattle.elements.specs.declared.element.KeyedElement.{KeyedElement}
+use Rattle.elements.specs.Element.{elementsIn}
+use Rattle.elements.specs.Keying.{LongKeyDowns}
+use Rattle.elements.specs.Find.{At, Absent, thresholdOf}
+use Rattle.elements.proofs.Records.{elements-read}
+use Rattle.elements.proofs.Recording.{all-counted}
+use Rattle.fits.specs.declared.fit.ElementFit.{ElementFit}
+use Rattle.fits.specs.List.{fitsIn}
+use Rattle.fits.specs.Estimate.{refined, carrierStep, strongElements, strongFits, strongEstimate}
+use Rattle.fits.proofs.Records.{fits-read}
+use Rattle.fits.proofs.Strong.{handed-strong, handed-strong-nothing, strong-counted}
+use Rattle.synth.specs.Span.{spanOf, covers}
+use Rattle.synth.specs.Removal.{subtracted}
+use Rattle.synth.proofs.Samples.{outside-spans}
+use Rattle.synth.proofs.RustFields.{rustOf}
+use Rattle.classes.specs.declared.class.BlockClass.{BlockClass}
+use Rattle.classes.specs.declared.class.BlockClass.the-variants.{Edge, Interior, Gap, Other}
+use Rattle.classes.specs.Classify.{timesOf, classOf, countsOf}
+use Rattle.classes.proofs.Counts.{blocks-counted}
+use Rattle.measure.specs.declared.residual.ResidualCheck.{ResidualCheck}
+use Rattle.measure.specs.declared.evidence.SecondCarrierEvidence.{SecondCarrierEvidence}
+use Rattle.measure.specs.Residual.{residualCheckOf}
+use Rattle.measure.specs.Evidence.{evidenceCheckOf}
+use Rattle.measure.specs.Hypothesis.{hypothesisOf}
+use Rattle.measure.proofs.Reach.{AgreeIn, residual-reach}
+use Rattle.measure.proofs.ReachEvidence.{evidence-check-reach}
+use Rattle.engine.specs.declared.run.Figures.{Figures}
+use Rattle.engine.specs.Run.{takes, runClass, runTaken, runOf, runBuffer}
+use Rattle.cancel.specs.declared.running.RunAnswer.the-variants.{Done}
+use Rattle.cancel.specs.Running.{runOutcome, runRule}
+use Rattle.cancel.proofs.EstimateAccepted.{estimate-accepted}
+use Rattle.cancel.proofs.RunAccepted.{run-done}
+
+module _ (buf : List Float) (fs hint : Float) (elements fits work : List Float) (f : Figures) (after left fits-left scratch : List Float)
+    (promise : runOutcome (Done f) after left fits-left scratch ≡ runRule buf fs hint elements fits work) where
+  -- the elements and the fits handed out
+  abbrev listed : List KeyedElement
+  listed = elementsIn left (f .estimate .found .listed)
+
+  abbrev fitted : List ElementFit
+  fitted = fitsIn fits-left (f .estimate .fitted)
+
+  figures-are : f ≡ runOf buf fs hint
+  figures-are = run-done buf fs hint elements fits work _ promise .1
+
+  buffer-is : after ≡ runBuffer buf fs hint
+  buffer-is = run-done buf fs hint elements fits work _ promise .2
+
+  listed-are : listed ≡ strongElements buf fs hint
+  listed-are = elements-read left elements _ _ (run-done buf fs hint elements fits work _ promise .3)
+
+  fitted-are : fitted ≡ strongFits buf fs hint
+  fitted-are = fits-read fits-left fits _ _ (run-done buf fs hint elements fits work _ promise .4)
+
+  estimate-is : f .estimate ≡ strongEstimate buf fs hint
+  unfolding runOf
+  estimate-is = ap (λ (g : Figures). g .estimate) figures-are
+
+  at-refined : f .estimate .«carrier_hz» ≡ refined buf fs hint
+  unfolding strongEstimate
+  at-refined = ap (λ e. e .«carrier_hz») estimate-is
+
+  -- ---- The counts balance for every accepted run.
+  pub key-downs-balance : f .estimate .found .«key_downs» ≡ f .estimate .found .listed + f .estimate .found .short
+  unfolding strongEstimate
+  key-downs-balance = rw estimate-is (all-counted buf fs (refined buf fs hint))
+
+  pub listed-balance : f .estimate .found .listed ≡ f .estimate .fitted + f .skipped
+  unfolding runOf
+  listed-balance = rw figures-are (sym (strong-counted buf fs hint))
+
+  pub blocks-balance : f .blocks ≡ f .classes .edge + f .classes .interior + f .classes .gap + f .classes .other
+  unfolding runOf
+  blocks-balance = rw figures-are (sym (blocks-counted (runClass buf fs hint) (blocks buf (windowOf fs))))
+
+  -- ---- Each figure is the one 01 defines, with the elements and fits that are handed out, those of the second pass.
+  pub blocks-are : f .blocks ≡ blocks buf (windowOf fs)
+  unfolding runOf
+  blocks-are = ap (λ (g : Figures). g .blocks) figures-are
+
+  pub classes-are : f .classes ≡ countsOf (classOf fs (samples buf) fitted listed) (f .blocks)
+  unfolding runOf
+  classes-are = rw (fitted-are, listed-are, blocks-are) (ap (λ (g : Figures). g .classes) figures-are)
+
+  pub residual-is : f .residual ≡ residualCheckOf buf fs (f .estimate .«carrier_hz») fitted listed
+  unfolding runOf
+  residual-is = rw (fitted-are, listed-are, at-refined) (ap (λ (g : Figures). g .residual) figures-are)
+
+  pub evidence-is : f .evidence ≡ evidenceCheckOf buf fs (f .estimate .«carrier_hz») fitted listed
+  unfolding runOf
+  evidence-is = rw (fitted-are, listed-are, at-refined) (ap (λ (g : Figures). g .evidence) figures-are)
+
+  pub hypothesis-is : f .hypothesis ≡ hypothesisOf (f .evidence)
+  unfolding runOf
+  hypothesis-is = rw figures-are
+
+  -- ---- The list holds the key-downs whose computed length is at least RISE_S × fs, each once, in order, nothing else.
+  pub list-exactly : Singles buf → (thr : Float) → thresholdOf buf fs (f .estimate .«carrier_hz») ≡ At thr
+      → LongKeyDowns (rowOf buf fs (f .estimate .«carrier_hz»)) thr (rowLength buf fs - 1) (stepOf fs) fs listed
+  list-exactly s thr t =
+      let told = run-done buf fs hint elements fits work _ promise in
+      let known = estimate-accepted buf fs hint _ _ _ (told .0) in
+      rw at-refined (handed-strong buf fs hint left elements _ (told .3) s (known .iq-ok) thr (rw at-refined at t))
+
+  pub list-nothing : thresholdOf buf fs (f .estimate .«carrier_hz») ≡ Absent → listed ≡ []
+  list-nothing t = handed-strong-nothing buf fs hint left elements _ (run-done buf fs hint elements fits work _ promise .3) (rw at-refined at t)
+
+  -- ---- The word: taken exactly when all four hold.
+  pub taken-exactly : f .taken ≡ takes (f .hypothesis) (f .estimate .fitted) (f .estimate .«carrier_step_hz») (f .residual)
+  unfolding runOf runTaken strongEstimate
+  taken-exactly = rw figures-are
+
+  is-taken : runTaken buf fs hint ≡ f .taken
+  unfolding runOf
+  is-taken = sym (ap (λ (g : Figures). g .taken) figures-are)
+
+  -- A run that says kept changes no sample.
+  pub kept-unchanged : f .taken ≡ false → after ≡ buf
+  unfolding runBuffer
+  kept-unchanged k = rw (buffer-is, is-taken, k)
+
+  -- One that says taken leaves what `subtract` leaves, of the fits handed out ..
+  pub taken-leaves : f .taken ≡ true → after ≡ subtracted fs (f .estimate .«carrier_hz» ⊘ fs) buf fitted
+  unfolding runBuffer
+  taken-leaves k = rw (fitted-are, at-refined, buffer-is, is-taken, k)
+
+  -- .. and changes none outside the fitted spans.
+  pub outside-unchanged : (k : ℕ) → ((g : ElementFit) → List·Memᴰ g fitted → covers (spanOf fs (samples buf) g) k ≡ false) → zAt after k ≡ zAt buf k
+  outside-unchanged k h = go (f .taken) refl
+    where
+      go : (t : Bool) → f .taken ≡ t → zAt after k ≡ zAt buf k
+      go true e = ap (λ l. zAt l k) (taken-leaves e) ∙ outside-spans fs (f .estimate .«carrier_hz» ⊘ fs) buf fitted k h
+      go false e = ap (λ l. zAt l k) (kept-unchanged e)
+
+-- ---- Two accepted runs alike in length, rate, final estimate in the Rust's own fields, and every sample of the edge,
+-- interior and gap blocks have the same residual figures, evidence and hypothesis, whatever the samples elsewhere, the
+-- hints, the lists and the positions are.
+module _ (buf buf' : List Float) (fs hint hint' : Float) (elements elements' fits fits' work work' : List Float) (f g : Figures)
+    (after after' left left' fits-left fits-left' scratch scratch' : List Float)
+    (one : runOutcome (Done f) after left fits-left scratch ≡ runRule buf fs hint elements fits work)
+    (two : runOutcome (Done g) after' left' fits-left' scratch' ≡ runRule buf' fs hint' elements' fits' work')
+    (long : length buf ≡ length buf')
+    (carrier : f .estimate .«carrier_hz» ≡ g .estimate .«carrier_hz»)
+    (fits-alike : map rustOf (fitsIn fits-left (f .estimate .fitted)) ≡ map rustOf (fitsIn fits-left' (g .estimate .fitted)))
+    (elements-alike : map timesOf (elementsIn left (f .estimate .found .listed)) ≡ map timesOf (elementsIn left' (g .estimate .found .listed)))
+    (agree : (b : ℕ) → b < blocks buf (windowOf fs)
+    → classOf fs (samples buf) (fitsIn fits-left (f .estimate .fitted)) (elementsIn left (f .estimate .found .listed)) b ≢ Other → AgreeIn buf buf' (windowOf fs) b) where
+  not-other : (c : BlockClass) → (c ≡ Gap) ⊎ (c ≡ Interior) → c ≢ Other
+  not-other c h e = ⊎-elim (λ p. gap-other (sym p ∙ e)) (λ p. interior-other (sym p ∙ e)) h
+    where
+      gap-other : Gap ≡ Other → ⊥
+      gap-other q = let z : _≡_ {A = ℕ} 0 1 = cc in absurd (omega arith)
+
+      interior-other : Interior ≡ Other → ⊥
+      interior-other q = let z : _≡_ {A = ℕ} 0 1 = cc in absurd (omega arith)
+
+  pub same-residual : f .residual ≡ g .residual
+  same-residual =
+      residual-is buf fs hint elements fits work f after left fits-left scratch one
+      ∙ residual-reach buf buf' fs (f .estimate .«carrier_hz») (fitsIn fits-left (f .estimate .fitted)) (fitsIn fits-left' (g .estimate .fitted)) (elementsIn left (f .estimate .found .listed)) (elementsIn left' (g .estimate .found .listed)) long fits-alike elements-alike agree
+      ∙ ap (λ c. residualCheckOf buf' fs c (fitsIn fits-left' (g .estimate .fitted)) (elementsIn left' (g .estimate .found .listed))) carrier
+      ∙ sym (residual-is buf' fs hint' elements' fits' work' g after' left' fits-left' scratch' two)
+
+  pub same-evidence : f .evidence ≡ g .evidence
+  same-evidence =
+      evidence-is buf fs hint elements fits work f after left fits-left scratch one
+      ∙ evidence-check-reach buf buf' fs (f .estimate .«carrier_hz») (fitsIn fits-left (f .estimate .fitted)) (fitsIn fits-left' (g .estimate .fitted)) (elementsIn left (f .estimate .found .listed)) (elementsIn left' (g .estimate .found .listed)) long fits-alike elements-alike (λ b h c. agree b h (not-other (classOf fs (samples buf) (fitsIn fits-left (f .estimate .fitted)) (elementsIn left (f .estimate .found .listed)) b) c))
+      ∙ ap (λ c. evidenceCheckOf buf' fs c (fitsIn fits-left' (g .estimate .fitted)) (elementsIn left' (g .estimate .found .listed))) carrier
+      ∙ sym (evidence-is buf' fs hint' elements' fits' work' g after' left' fits-left' scratch' two)
+
+  pub same-hypothesis : f .hypothesis ≡ g .hypothesis
+  same-hypothesis =
+      hypothesis-is buf fs hint elements fits work f after left fits-left scratch one
+      ∙ ap hypothesisOf same-evidence
+      ∙ sym (hypothesis-is buf' fs hint' elements' fits' work' g after' left' fits-left' scratch' two)

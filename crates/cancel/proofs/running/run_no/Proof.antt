@@ -1,0 +1,21 @@
+-- `cancel::running::run_no` meets its contract. Assumes nothing.
+use borrow.Author.Needs.{needs}
+use Rattle.cancel.proofs.FirstNo.{ways}
+use Rattle.cancel.proofs.running.run_no.Statement.{statement}
+use Rattle.cancel.proofs.running.run_no.Tie as tie
+
+pub run-no-spec : {M : Type 1} → statement M
+run-no-spec =
+    tie.close
+    (tie.spec
+    (λ c κs. search needs)
+    (λ c. search ways depth 8)
+    (λ c κs. search needs)
+    (λ c. search ways depth 8)
+    (λ c κs. search needs)
+    (λ c. search ways depth 8)
+    (λ c κs. search needs)
+    (λ c. search ways depth 8)
+    (λ c κs. search needs)
+    (λ c. search ways depth 8)
+    (λ c. search ways depth 8))

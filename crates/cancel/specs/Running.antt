@@ -1,0 +1,54 @@
+-- `run`, open to callers (01, part 7, with questions 1 to 6). Definitions only.
+use Prim.Native.Nat.{ℕ, _/_}
+use mathlib.Core.List.{List, [], _∷_, _++_}
+use lib.ListN.{length}
+use lib.Ieee.{Float}
+use Rattle.row.specs.Window.{stepBlocks}
+use Rattle.elements.specs.declared.element.KeyedElement.{KeyedElement}
+use Rattle.elements.specs.Element.{ELEMENT, Handed, handed, handedElements}
+use Rattle.fits.specs.declared.fit.ElementFit.{ElementFit}
+use Rattle.fits.specs.List.{FIT, handedFits}
+use Rattle.fits.specs.Estimate.{strongElements, strongFits}
+use Rattle.engine.specs.declared.run.Figures.{Figures}
+use Rattle.engine.specs.Run.{runOf, runBuffer}
+use Rattle.cancel.specs.declared.running.RunAnswer.{RunAnswer}
+use Rattle.cancel.specs.declared.running.RunAnswer.the-variants.{Refused, Done}
+use Rattle.cancel.specs.Answers.{Outcome, accepted, refused, byNumber}
+use Rattle.cancel.specs.Questions.{Asked, ask, firstNo, recordingQuestions, carrierOk, placesOk, workOk}
+
+-- It asks 1 to 6. Each of the two lists to be filled has floor(B/2) places.
+abbrev pub runQuestions : List Float → Float → Float → ℕ → ℕ → ℕ → List Asked
+runQuestions buf fs hint elements fits work =
+    let b = stepBlocks buf fs in
+    recordingQuestions buf fs
+    ++ (ask 4 (carrierOk fs hint) ∷ ask 5 (placesOk (b / 2) (elements / ELEMENT)) ∷ ask 5 (placesOk (b / 2) (fits / FIT)) ∷ ask 6 (workOk b work) ∷ [])
+
+-- Every figure, what the buffer holds, the elements and the fits that the lists hand out, and the length of the work
+-- slice.
+pub record RunResult : Type 0 where
+  pub figures : Figures
+  pub buffer : List Float
+  pub elements : Handed KeyedElement
+  pub fits : Handed ElementFit
+  pub work : ℕ
+
+-- the number and the result of each answer, with what the lent slices then hold
+abbrev pub runOutcome : RunAnswer → List Float → List Float → List Float → List Float → Outcome RunResult
+runOutcome (Refused n) buf elements fits work = refused n (buf ∷ elements ∷ fits ∷ work ∷ [])
+runOutcome (Done f) buf elements fits work =
+    accepted
+    (record { figures = f; buffer = buf; elements = handedElements elements (f .estimate .found .listed); fits = handedFits fits (f .estimate .fitted); work = length work })
+
+-- The first no is the result, and nothing is written; else the run's figures and its buffer, and in the lists the
+-- elements and the fits of the second pass.
+unfoldable pub runRule : List Float → Float → Float → List Float → List Float → List Float → Outcome RunResult
+runRule buf fs hint elements fits work =
+    byNumber (firstNo (runQuestions buf fs hint (length elements) (length fits) (length work)))
+    (record {
+      figures = runOf buf fs hint;
+      buffer = runBuffer buf fs hint;
+      elements = handed ELEMENT (strongElements buf fs hint) elements;
+      fits = handed FIT (strongFits buf fs hint) fits;
+      work = length work;
+    })
+    (buf ∷ elements ∷ fits ∷ work ∷ [])

@@ -1,0 +1,61 @@
+// run, open to callers.
+use crate::questions::carrier_ok;
+use crate::questions::find_places_ok;
+use crate::questions::recording_no;
+use crate::questions::work_ok;
+use elements::ELEMENT;
+use engine::Figures;
+use fits::FIT;
+ghost use mathlib.Core.Path.{_≡_};
+ghost use Rattle.cancel.specs.Questions.{firstNo};
+ghost use Rattle.cancel.specs.Running.{runQuestions, runOutcome, runRule};
+
+pub enum RunAnswer {
+    Refused(u64),
+    Done(Figures),
+}
+
+// Questions 1 to 6: the number of the first no, 0 where every answer is yes.
+fn run_no(iq: &[f32], fs: f64, hint_hz: f64, elements: usize, fits: usize, work: usize) -> u64
+    ensures { λ r. ⌜ r ≡ firstNo (runQuestions (now (iq .entry)) fs «hint_hz» elements fits work) ⌝ }
+{
+    let no = recording_no(iq, fs);
+    if no != 0 {
+        return no;
+    }
+    if !carrier_ok(fs, hint_hz) {
+        return 4;
+    }
+    if !find_places_ok(iq, fs, elements / ELEMENT) {
+        return 5;
+    }
+    if !find_places_ok(iq, fs, fits / FIT) {
+        return 5;
+    }
+    if !work_ok(iq, fs, work) {
+        return 6;
+    }
+    0
+}
+
+// The run: it asks first; then estimate, residual check, evidence and hypothesis, and the strong sender is taken off
+// the buffer where all four conditions hold.
+pub fn run(
+    buf: &mut [f32],
+    fs: f64,
+    hint_hz: f64,
+    elements: &mut [f64],
+    fits: &mut [f64],
+    work: &mut [f64],
+) -> RunAnswer
+    ensures { λ r. ⌜ runOutcome r (now (buf .exit)) (now (elements .exit)) (now (fits .exit)) (now (work .exit))
+        ≡ runRule (now (buf .entry)) fs «hint_hz» (now (elements .entry)) (now (fits .entry)) (now (work .entry)) ⌝ }
+{
+    let no = run_no(buf, fs, hint_hz, elements.len(), fits.len(), work.len());
+    if no != 0 {
+        return RunAnswer::Refused(no);
+    }
+    let sine = trig::SINE;
+    let figures = engine::run::run(buf, fs, hint_hz, elements, fits, work, &sine);
+    RunAnswer::Done(figures)
+}
