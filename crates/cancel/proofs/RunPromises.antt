@@ -1,15 +1,18 @@
--- What every accepted run answers and leaves in what it was lent (the user's third demand): the balances, each figure
--- from the lists that it hands out, the list, the word kept or taken with the buffer, and what two runs share. Assumes
--- nothing.
+-- What every accepted run answers and leaves in what it was lent (the user's third demand): the final estimate, the
+-- balances, each figure from the lists that it hands out, the list, the word kept or taken with the buffer, and what
+-- two runs share. `promise` is what `cancel::run` ensures where it answers `Done`; `Singles` of a recording, that each
+-- number of it is an f32, is what every slice of f32 has. Assumes nothing.
 use Prim.Native.Nat.{ℕ, _+_, _-_, _<_}
 use native.Mathlib.Omega.{arith}
 use mathlib.Core.Path.{_≡_, refl, sym, ap, _∙_, subst}
 use mathlib.Core.Logic.{_≢_, _⊎_, ⊎-elim}
-use mathlib.Core.Bool.{Bool, true, false, cond}
+use mathlib.Core.Bool.{Bool, true, false, not, cond}
 use mathlib.Core.List.{List, [], map, List·Memᴰ}
 use lib.ListN.{length}
 use lib.Ieee.{Float}
 use Rattle.float.specs.Ops.{_⊘_}
+use Rattle.lists.specs.Those.{those}
+use Rattle.lists.proofs.Firsts.{length-firsts}
 use Rattle.complex.specs.Rows.{zAt}
 use Rattle.row.specs.Window.{stepOf, windowOf, samples, blocks}
 use Rattle.row.specs.Envelope.{rowOf, rowLength}
@@ -17,14 +20,16 @@ use Rattle.row.proofs.Bounds.{Singles}
 use Rattle.elements.specs.declared.element.KeyedElement.{KeyedElement}
 use Rattle.elements.specs.Element.{elementsIn}
 use Rattle.elements.specs.Keying.{LongKeyDowns}
-use Rattle.elements.specs.Find.{At, Absent, thresholdOf}
+use Rattle.elements.specs.Find.{At, Absent, thresholdOf, foundOf}
 use Rattle.elements.proofs.Records.{elements-read}
 use Rattle.elements.proofs.Recording.{all-counted}
 use Rattle.fits.specs.declared.fit.ElementFit.{ElementFit}
-use Rattle.fits.specs.List.{fitsIn}
+use Rattle.fits.specs.declared.fit.Fit.the-variants.{Fitted}
+use Rattle.fits.specs.Fit.{fitOf}
+use Rattle.fits.specs.List.{fitAt, fitsIn, isSkipped, skippedOf}
 use Rattle.fits.specs.Estimate.{refined, carrierStep, strongElements, strongFits, strongEstimate}
 use Rattle.fits.proofs.Records.{fits-read}
-use Rattle.fits.proofs.Strong.{handed-strong, handed-strong-nothing, strong-counted}
+use Rattle.fits.proofs.Strong.{handed-strong, handed-strong-nothing, handed-strong-fits, strong-fit-is, strong-counted}
 use Rattle.synth.specs.Span.{spanOf, covers}
 use Rattle.synth.specs.Removal.{subtracted}
 use Rattle.synth.proofs.Samples.{outside-spans}
@@ -75,6 +80,44 @@ module _ (buf : List Float) (fs hint : Float) (elements fits work : List Float) 
   at-refined : f .estimate .«carrier_hz» ≡ refined buf fs hint
   unfolding strongEstimate
   at-refined = ap (λ e. e .«carrier_hz») estimate-is
+
+  -- ---- The final estimate: the carrier is refined from the first pass, and the rest is the second pass at it.
+  pub carrier-is : f .estimate .«carrier_hz» ≡ refined buf fs hint
+  carrier-is = at-refined
+
+  pub step-is : f .estimate .«carrier_step_hz» ≡ carrierStep buf fs hint
+  unfolding strongEstimate
+  step-is = ap (λ e. e .«carrier_step_hz») estimate-is
+
+  -- key-downs, listed, short and airtime, as counted on the row at the final carrier
+  pub found-is : f .estimate .found ≡ foundOf buf fs (f .estimate .«carrier_hz»)
+  unfolding strongEstimate
+  found-is = rw at-refined (ap (λ e. e .found) estimate-is)
+
+  -- the fits handed out are, in order, of those listed elements that are not skipped, and each is the fit of its element
+  pub fits-of-listed : map (λ g. g .element) fitted ≡ those (λ e. not (isSkipped (fitOf buf fs (f .estimate .«carrier_hz» ⊘ fs) e))) listed
+  fits-of-listed =
+      let told = run-done buf fs hint elements fits work _ promise in
+      rw at-refined (handed-strong-fits buf fs hint left elements _ (told .3) fits-left fits _ (told .4))
+
+  pub fits-each : (g : ElementFit) → List·Memᴰ g fitted → fitOf buf fs (f .estimate .«carrier_hz» ⊘ fs) (g .element) ≡ Fitted g
+  fits-each g m = rw at-refined (strong-fit-is buf fs hint g (rw fitted-are at m))
+
+  pub fitted-counted : f .estimate .fitted ≡ length fitted
+  unfolding fitsIn
+  fitted-counted = sym (length-firsts (fitAt fits-left) (f .estimate .fitted))
+
+  pub skipped-is : f .skipped ≡ length (skippedOf buf fs (f .estimate .«carrier_hz») listed)
+  unfolding runOf
+  skipped-is = rw (listed-are, at-refined) (ap (λ (g : Figures). g .skipped) figures-are)
+
+  pub samples-is : f .samples ≡ samples buf
+  unfolding runOf
+  samples-is = ap (λ (g : Figures). g .samples) figures-are
+
+  pub window-is : f .window ≡ windowOf fs
+  unfolding runOf
+  window-is = ap (λ (g : Figures). g .window) figures-are
 
   -- ---- The counts balance for every accepted run.
   pub key-downs-balance : f .estimate .found .«key_downs» ≡ f .estimate .found .listed + f .estimate .found .short
