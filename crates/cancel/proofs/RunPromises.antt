@@ -94,7 +94,8 @@ module _ (buf : List Float) (fs hint : Float) (elements fits work : List Float) 
   unfolding strongEstimate
   found-is = rw at-refined (ap (λ e. e .found) estimate-is)
 
-  -- the fits handed out are, in order, of those listed elements that are not skipped, and each is the fit of its element
+  -- the fits handed out are, in order, of those listed elements that are not skipped, and each is the fit of its
+  -- element
   pub fits-of-listed : map (λ g. g .element) fitted ≡ those (λ e. not (isSkipped (fitOf buf fs (f .estimate .«carrier_hz» ⊘ fs) e))) listed
   fits-of-listed =
       let told = run-done buf fs hint elements fits work _ promise in
