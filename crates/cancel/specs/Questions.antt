@@ -7,7 +7,7 @@ use lib.Dec.{leb, eqb}
 use lib.ListN.{length}
 use lib.Ieee.{Float, lt, le, eq}
 use Rattle.lists.specs.Every.{every}
-use Rattle.float.specs.Ops.{_⊘_, zero, two}
+use Rattle.float.specs.Ops.{_⊘_, plus-zero, two}
 use Rattle.float.specs.Compare.{absOf}
 use Rattle.float.specs.Whole.{floorOf}
 use Rattle.float.specs.Size.{finiteF, sized, 2^}
@@ -53,7 +53,7 @@ sizeOk x = finiteF x && sized x
 
 -- Is a given up or down a whole number from 0, below 2^20?
 unfoldable pub positionOk : Float → Bool
-positionOk x = le zero x && lt x (2^ 20) && eq (floorOf x) x
+positionOk x = le plus-zero x && lt x (2^ 20) && eq (floorOf x) x
 
 -- Are the numbers of a given element such numbers?
 unfoldable pub elementOk : KeyedElement → Bool

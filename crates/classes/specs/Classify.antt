@@ -7,7 +7,7 @@ use mathlib.Core.List.{List, [], _∷_, _++_, map}
 use lib.Dec.{leb, ltb}
 use lib.ListN.{length, getD}
 use lib.Ieee.{Float, nan, lt, eq, toUnsigned}
-use Rattle.float.specs.Ops.{_⊕_, _⊖_, _⊗_, _⊘_, of, zero, one, two}
+use Rattle.float.specs.Ops.{_⊕_, _⊖_, _⊗_, _⊘_, of, plus-zero, one, two}
 use Rattle.float.specs.Compare.{maxOf}
 use Rattle.float.specs.Whole.{floorOf, ceilOf}
 use Rattle.lists.specs.Count.{countTo}
@@ -43,10 +43,10 @@ module _ (len : ℕ) where
 
   -- `range`: the first block whose centre is at or above lo, and the one after the last whose centre is at or below hi
   abbrev pub firstFrom : Float → ℕ
-  firstFrom lo = toUnsigned 64 (maxOf (ceilOf ((lo ⊖ (of len ⊖ one) ⊘ two) ⊘ of len)) zero)
+  firstFrom lo = toUnsigned 64 (maxOf (ceilOf ((lo ⊖ (of len ⊖ one) ⊘ two) ⊘ of len)) plus-zero)
 
   abbrev pub pastLast : Float → ℕ
-  pastLast hi = toUnsigned 64 (maxOf (floorOf ((hi ⊖ (of len ⊖ one) ⊘ two) ⊘ of len) ⊕ one) zero)
+  pastLast hi = toUnsigned 64 (maxOf (floorOf ((hi ⊖ (of len ⊖ one) ⊘ two) ⊘ of len) ⊕ one) plus-zero)
 
   unfoldable pub inRange : Float → Float → ℕ → Bool
   inRange lo hi b = leb (firstFrom lo) b && ltb b (pastLast hi)

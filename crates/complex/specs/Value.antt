@@ -2,7 +2,7 @@
 -- Definitions only.
 use lib.Ieee.{Float, neg, binary64}
 use Rattle.complex.specs.declared.value.Complex.{Complex}
-use Rattle.float.specs.Ops.{_⊕_, _⊖_, _⊗_, _⊘_, zero}
+use Rattle.float.specs.Ops.{_⊕_, _⊖_, _⊗_, _⊘_, plus-zero}
 use Rattle.float.specs.Root.{sqrtOf}
 use Rattle.trig.specs.Circle.{sinOf, cosOf}
 use Rattle.trig.specs.Argument.{argOf}
@@ -11,7 +11,7 @@ abbrev pub cNew : Float → Float → Complex
 cNew x y = record { re = x; im = y }
 
 abbrev pub cZero : Complex
-cZero = cNew zero zero
+cZero = cNew plus-zero plus-zero
 
 abbrev pub cAdd : Complex → Complex → Complex
 cAdd a b = cNew (a .re ⊕ b .re) (a .im ⊕ b .im)

@@ -13,7 +13,7 @@ use lib.Dec.{lit≤}
 use lib.Ieee.{Float, nan, lt, le}
 use lib.ListN.{length, getD}
 use Rattle.lists.proofs.Every.{and-left, and-right}
-use Rattle.float.specs.Ops.{_⊖_, _⊗_, _⊘_, half, zero}
+use Rattle.float.specs.Ops.{_⊖_, _⊗_, _⊘_, half, plus-zero}
 use Rattle.float.proofs.Compared.{yes}
 use Rattle.float.proofs.Bounds.{Bounded, bounded-more, bounded-add, bounded-sub, bounded-mul, bounded-div, bounded-whole, bounded-one, beyond-two}
 use Rattle.float.proofs.Amounts.{Amount, amount-half, amount-number, Crosses, share-bounded}
@@ -105,7 +105,7 @@ module _ (iq : List Float) (fs carrier : Float) (s : Singles iq) (q : Iq iq) whe
       subst Amount (sym (getD-firsts (rowOf iq fs carrier) (rowLength iq fs) i nan here)) (row-amount iq fs carrier i s q here)
 
   half-amount : (p : Percentile) (thr : Float) → ((v : Float) → p ≡ Value v → Amount v) → halfOf p ≡ At thr → Amount thr
-  half-amount (Value top) thr h e = go (lt zero (half ⊗ top)) e
+  half-amount (Value top) thr h e = go (lt plus-zero (half ⊗ top)) e
     where
       go : (t : Bool) → cond t (At (half ⊗ top)) Absent ≡ At thr → Amount thr
       go true e = let same : half ⊗ top ≡ thr = cc in subst Amount same (amount-half top (h top refl))

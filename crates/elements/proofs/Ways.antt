@@ -7,7 +7,7 @@ use mathlib.Core.Bool.{true, false}
 use mathlib.Core.List.{List}
 use lib.ListN.{length, getD, take, drop}
 use lib.Ieee.{Float, nan, lt}
-use Rattle.float.specs.Ops.{_⊗_, _⊘_, bits, half, zero}
+use Rattle.float.specs.Ops.{_⊗_, _⊘_, bits, half, plus-zero}
 use Rattle.complex.specs.Rows.{zFill}
 use Rattle.lists.specs.Fill.{fill}
 use Rattle.row.specs.Window.{Rate, stepOf, windowOf, samples, blocks, stepBlocks}
@@ -93,10 +93,10 @@ module _ (iq : List Float) (fs carrier : Float) where
     pub way-none : (l : List Float) → p ≡ Nothing → answered none l l
     way-none l e = without l (rw (threshold-is, e))
 
-    pub way-low : (l : List Float) (top : Float) → p ≡ Value top → lt zero (half ⊗ top) ≡ false → answered none l l
+    pub way-low : (l : List Float) (top : Float) → p ≡ Value top → lt plus-zero (half ⊗ top) ≡ false → answered none l l
     way-low l top e low = without l (rw (threshold-is, e, low))
 
-    pub way-found : (l out : List Float) (top : Float) (step : ℕ) (r : Found) → ELEMENT * (stepBlocks iq fs / 2) ≤ length l → step ≡ stepOf fs → 1 ≤ length v → p ≡ Value top → lt zero (half ⊗ top) ≡ true
+    pub way-found : (l out : List Float) (top : Float) (step : ℕ) (r : Found) → ELEMENT * (stepBlocks iq fs / 2) ≤ length l → step ≡ stepOf fs → 1 ≤ length v → p ≡ Value top → lt plus-zero (half ⊗ top) ≡ true
         → (r ≡ foundTo (λ k. getD v k nan) (half ⊗ top) step fs (length v - 1)) × (out ≡ stored l (elementsTo (λ k. getD v k nan) (half ⊗ top) step fs (length v - 1)))
         → answered r l out
     unfolding foundOf elementsFound

@@ -3,7 +3,7 @@ use Prim.Native.Nat.{ℕ, _-_}
 use mathlib.Core.Bool.{cond}
 use mathlib.Core.List.{List, []}
 use lib.Ieee.{Float, lt}
-use Rattle.float.specs.Ops.{_⊗_, half, zero}
+use Rattle.float.specs.Ops.{_⊗_, half, plus-zero}
 use Rattle.lists.specs.Firsts.{firsts}
 use Rattle.constants.specs.Constants.{EDGE_PERCENTILE}
 use Rattle.row.specs.Window.{stepOf}
@@ -22,7 +22,7 @@ pub data Threshold : Type 0 where
 
 -- Threshold: half the 98th percentile. A row with no percentile has none, and one not positive gives no key-downs.
 abbrev pub halfOf : Percentile → Threshold
-halfOf (Value top) = cond (lt zero (half ⊗ top)) (At (half ⊗ top)) Absent
+halfOf (Value top) = cond (lt plus-zero (half ⊗ top)) (At (half ⊗ top)) Absent
 halfOf Nothing = Absent
 
 unfoldable pub thresholdOf : List Float → Float → Float → Threshold

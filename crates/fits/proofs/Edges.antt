@@ -6,7 +6,7 @@ use mathlib.Core.Bool.{false}
 use mathlib.Core.List.{List, [], _∷_}
 use borrow.Author.Tests.{le-leb}
 use lib.Ieee.{Float, add, sub, mul, div, rem, neg, lt, le, ofInt, ofBits, round, toSigned, toUnsigned, eq, isNan}
-use Rattle.float.specs.Ops.{_⊘_, of, zero as nought, one, fraction}
+use Rattle.float.specs.Ops.{_⊘_, of, plus-zero, one, fraction}
 use Rattle.float.specs.Compare.{absOf, maxOf}
 use Rattle.float.specs.Whole.{floorOf, ceilOf, roundOf, wholeBy}
 use Rattle.float.specs.Root.{sqrtOf}
@@ -46,11 +46,11 @@ mean-two : cDiv (cAdd (cAdd cZero (real 1)) (real 1)) (of 2) ≡ real 1
 unfolding add div ofInt ofBits
 mean-two = refl
 
-phase-first : cArg (real 1) ≡ nought
+phase-first : cArg (real 1) ≡ plus-zero
 unfolding argOf arctanOf arctanTable PI absOf roundOf wholeBy round eq lt add sub mul div neg ofInt ofBits toUnsigned
 phase-first = refl
 
-phase-next : phaseOn nought (real 1) (real 1) ≡ nought
+phase-next : phaseOn plus-zero (real 1) (real 1) ≡ plus-zero
 unfolding argOf arctanOf arctanTable PI absOf roundOf wholeBy round eq lt add sub mul div neg ofInt ofBits toUnsigned
 phase-next = refl
 
@@ -66,15 +66,15 @@ module _ (iq : List Float) (cyc : Float) (i0 len : ℕ) (unit : (j : ℕ) → j 
       let second : i0 + b * 2 + 1 ≡ i0 + (b * 2 + 1) = omega arith in
       rw (first, second, unit (b * 2) (omega arith), unit (b * 2 + 1) (omega arith)) mean-two
 
-  phase-unit : (b : ℕ) → b * 2 + 2 ≤ len → phaseOf (slopeMean iq cyc i0 2) b ≡ nought
+  phase-unit : (b : ℕ) → b * 2 + 2 ≤ len → phaseOf (slopeMean iq cyc i0 2) b ≡ plus-zero
   unfolding phaseOf
   phase-unit zero h = rw (mean-unit zero h) phase-first
   phase-unit (suc b) h = rw (phase-unit b (omega arith), mean-unit b (omega arith), mean-unit (suc b) h) phase-next
 
-  slope-unit : slopeOf iq cyc i0 len 2 ≡ lineSlope (λ b. one) (timeOf i0 2) (λ b. nought) (len / 2)
+  slope-unit : slopeOf iq cyc i0 len 2 ≡ lineSlope (λ b. one) (timeOf i0 2) (λ b. plus-zero) (len / 2)
   unfolding slopeOf
   slope-unit =
-      slope-cong _ (λ b. one) (timeOf i0 2) _ (λ b. nought) (len / 2)
+      slope-cong _ (λ b. one) (timeOf i0 2) _ (λ b. plus-zero) (len / 2)
       (λ b h. ap cNorm (mean-unit b (omega arith)) ∙ norm-one)
       (λ b h. phase-unit b (omega arith))
 
@@ -84,7 +84,7 @@ module _ (iq : List Float) (cyc : Float) (i0 len : ℕ) (unit : (j : ℕ) → j 
 
 -- the fit of an element with such an interior, at fs 3,000
 abbrev pub unitFit : KeyedElement → Float → ElementFit
-unitFit e ref = record { element = e; gain = real 1; «slope_rad_per_sample» = nought; «ref_sample» = ref }
+unitFit e ref = record { element = e; gain = real 1; «slope_rad_per_sample» = plus-zero; «ref_sample» = ref }
 
 pub block-3000 : slopeBlock (of 3000) ≡ 2
 unfolding slopeBlock SLOPE_BLOCK_S maxOf roundOf wholeBy fraction round mul lt isNan ofInt ofBits toUnsigned
@@ -93,9 +93,9 @@ block-3000 = refl
 -- what is computed of an interior from i0 on of len samples
 record Level (i0 len : ℕ) (ref : Float) : Type 0 where
   middle : refSample i0 (i0 + len) ≡ ref
-  slope : lineSlope (λ b. one) (timeOf i0 2) (λ b. nought) (len / 2) ≡ nought
-  gain : cDiv (cSum (λ j. cMul (real 1) (cPolar (hann len j) (tiltOf nought ref (i0 + j)))) 0 len) (hannSum len) ≡ real 1
-  weight : le (hannSum len) nought ≡ false
+  slope : lineSlope (λ b. one) (timeOf i0 2) (λ b. plus-zero) (len / 2) ≡ plus-zero
+  gain : cDiv (cSum (λ j. cMul (real 1) (cPolar (hann len j) (tiltOf plus-zero ref (i0 + j)))) 0 len) (hannSum len) ≡ real 1
+  weight : le (hannSum len) plus-zero ≡ false
 
 fit-unit : (iq : List Float) (cyc : Float) (e : KeyedElement) (i0 len : ℕ) (ref : Float) → interiorOf (samples iq) (of 3000) (e .start) (e .end) ≡ Inside i0 (i0 + len) → Level i0 len ref
     → ((j : ℕ) → j < len → derot iq cyc (i0 + j) ≡ real 1) → fitOf iq (of 3000) cyc e ≡ Fitted (unitFit e ref)
@@ -109,7 +109,7 @@ fit-unit iq cyc e i0 len ref inside level unit =
       slope-unit iq cyc i0 len unit,
       level .slope,
       level .middle,
-      gain-unit iq cyc i0 len unit nought ref,
+      gain-unit iq cyc i0 len unit plus-zero ref,
       level .gain,
       level .weight,
     )

@@ -9,7 +9,7 @@ use mathlib.Core.Logic.{⊎-elim, _↔_}
 use mathlib.Core.List.{List, [], _∷_, _++_, map, List·Memᴰ, List·Memᴰ·not-nil, List·Memᴰ·append-cases, List·Memᴰ·eq-of-singleton}
 use lib.ListN.{length, length-map}
 use lib.Ieee.{Float, le}
-use Rattle.float.specs.Ops.{_⊘_, zero}
+use Rattle.float.specs.Ops.{_⊘_, plus-zero}
 use Rattle.lists.specs.Those.{those}
 use Rattle.lists.proofs.Members.{those-are, those-others}
 use Rattle.row.specs.Window.{samples}
@@ -35,7 +35,7 @@ not-fitted f q = let no : _≡_ {A = ℕ} 0 1 = cc in omega arith
 
 inside-element : (iq : List Float) (cyc : Float) (block : ℕ) (e : KeyedElement) (i0 i1 : ℕ) (f : ElementFit) → fitInside iq cyc block e i0 i1 ≡ Fitted f → f .element ≡ e
 unfolding fitInside
-inside-element iq cyc block e i0 i1 f = go (le (hannSum (i1 - i0)) zero) _ refl
+inside-element iq cyc block e i0 i1 f = go (le (hannSum (i1 - i0)) plus-zero) _ refl
   where
     go : (b : Bool) (g : ElementFit) → g .element ≡ e → cond b Skipped (Fitted g) ≡ Fitted f → f .element ≡ e
     go true g h q = absurd (not-fitted f q)

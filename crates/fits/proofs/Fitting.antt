@@ -8,7 +8,7 @@ use mathlib.Core.List.{List}
 use lib.ListN.{length}
 use lib.Ieee.{Float, le}
 use lib.Ieee.Nearest.{div-mono}
-use Rattle.float.specs.Ops.{_⊘_, of, zero, two}
+use Rattle.float.specs.Ops.{_⊘_, of, plus-zero, two}
 use Rattle.complex.specs.declared.value.Complex.{Complex}
 use Rattle.complex.specs.Value.{cDiv}
 use Rattle.row.specs.Samples.{Iq}
@@ -27,12 +27,12 @@ use Rattle.fits.proofs.Blocks.{step-le-block, block-some}
 use Rattle.fits.proofs.Interiors.{interior-within}
 
 module _ (iq : List Float) (cyc : Float) (block : ℕ) (e : KeyedElement) (i0 i1 : ℕ) (weight : Float) (w : weight ≡ hannSum (i1 - i0)) where
-  pub fit-weightless : le weight zero ≡ true → Skipped ≡ fitInside iq cyc block e i0 i1
+  pub fit-weightless : le weight plus-zero ≡ true → Skipped ≡ fitInside iq cyc block e i0 i1
   unfolding fitInside
   fit-weightless h = rw (← w, h)
 
   pub fit-made : (x slope : Float) (sum gain : Complex) → x ≡ of (i0 + i1 - 1) → slope ≡ slopeOf iq cyc i0 (i1 - i0) block → sum ≡ gainSum iq cyc i0 (i1 - i0) slope (x ⊘ two)
-      → gain ≡ cDiv sum weight → le weight zero ≡ false
+      → gain ≡ cDiv sum weight → le weight plus-zero ≡ false
       → Fitted record { element = e; gain = gain; «slope_rad_per_sample» = slope; «ref_sample» = x ⊘ two } ≡ fitInside iq cyc block e i0 i1
   unfolding fitInside refSample
   fit-made x slope sum gain p q s g h = rw (← w, h, ← p, ← q, ← s, g)

@@ -8,7 +8,7 @@ use lib.IntN.{pos}
 use lib.Dec.{T, lit≤, lit<}
 use lib.Ieee.{Float, nan, inf, fin, binary64, round, mul, lt, le, eq, ofInt, toUnsigned}
 use lib.Ieee.Positive.{positive, mul-mono}
-use Rattle.float.specs.Ops.{_⊕_, _⊖_, _⊗_, of, bits, zero, fraction}
+use Rattle.float.specs.Ops.{_⊕_, _⊖_, _⊗_, of, bits, plus-zero, fraction}
 use Rattle.float.specs.Compare.{absOf}
 use Rattle.float.specs.Whole.{wholeBy, floorOf, ceilOf}
 use Rattle.float.proofs.Ordered.{unsigned-mono}
@@ -32,11 +32,11 @@ unfolding hiOf
 hi-is fs end hi e = rw (rise-bits) e
 
 module _ (n : ℕ) (fs start end lo hi : Float) (e : lo ≡ loOf fs start) (f : hi ≡ hiOf fs end) where
-  pub before-it : lt lo zero ≡ true → Nothing ≡ interiorOf n fs start end
+  pub before-it : lt lo plus-zero ≡ true → Nothing ≡ interiorOf n fs start end
   unfolding interiorOf unfit
   before-it h = rw (← e, h)
 
-  module _ (top : Float) (g : top ≡ of n) (h : lt lo zero ≡ false) where
+  module _ (top : Float) (g : top ≡ of n) (h : lt lo plus-zero ≡ false) where
     pub past-it : lt top hi ≡ true → Nothing ≡ interiorOf n fs start end
     unfolding interiorOf unfit
     past-it i = rw (← e, ← f, ← g, h, i)
@@ -123,12 +123,12 @@ module _ (fs : Float) (r : Rate fs) where
         let rise = within-more 18 200 (RISE_S ⊗ fs) (lit≤ tt) rise-within in
         let x = start ⊕ RISE_S ⊗ fs in
         let y = end ⊖ RISE_S ⊗ fs in
-        let later = or-right (lt (ceilOf x) zero) _ e in
+        let later = or-right (lt (ceilOf x) plus-zero) _ e in
         let i =
         interval-is x y n (minLen fs) (within-finite 201 x (add-within binary64 start (RISE_S ⊗ fs) 200 (lit< tt) (le-within 200 start s) rise))
         (within-finite 201 y (sub-within binary64 end (RISE_S ⊗ fs) 200 (lit< tt) (le-within 200 end t) rise))
         (enough n few) (le-trans (lit≤ tt) least-low) (le-trans least-high (lit≤ tt))
-        (or-left (lt (ceilOf x) zero) _ e) (or-left (lt (of n) (floorOf y)) _ later) (or-right (lt (of n) (floorOf y)) _ later) in
+        (or-left (lt (ceilOf x) plus-zero) _ e) (or-left (lt (of n) (floorOf y)) _ later) (or-right (lt (of n) (floorOf y)) _ later) in
         (further _ _ _ least-low (i .long), i .inside)
 
     pub interior-within : (a b : ℕ) → Inside a b ≡ interiorOf n fs start end → (a + 20 ≤ b) × (b ≤ n)

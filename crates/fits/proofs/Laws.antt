@@ -8,7 +8,7 @@ use borrow.Author.Needs.{needs}
 use borrow.Author.Tests.{le-leb}
 use mathlib.Core.List.{List}
 use mathlib.Core.Bool.{true, false}
-use Rattle.float.specs.Ops.{_⊘_, zero}
+use Rattle.float.specs.Ops.{_⊘_, plus-zero}
 use native.Mathlib.Numerals.{add-one}
 use Rattle.complex.specs.declared.value.Complex.{Complex}
 use Rattle.complex.specs.Value.{cNew, cAdd, cNorm, cArg}
@@ -30,7 +30,7 @@ pub block-inside : (i0 block n b m : ℕ) → 2 * (i0 + n * block) ≤ m → b <
 block-inside i0 block n b m h l = omega (arith, mul-le-mul-right block l, suc-mul b block)
 
 -- −0.0 of the code is 0.0 negated
-pub total-none : (f : ℕ → Float) → neg zero ≡ total f 0
+pub total-none : (f : ℕ → Float) → neg plus-zero ≡ total f 0
 unfolding fSum ofBits neg
 total-none f = refl
 
@@ -65,16 +65,16 @@ leveled-is iq cyc i0 len slope ref j w r e p = rw (p, e)
 
 -- ---- the three ways out of a line's slope, of two points or more
 module _ (w t p : ℕ → Float) (n : ℕ) (ws wt wp : Float) (more : 2 ≤ n) (e : ws ≡ total w n) where
-  pub slope-weightless : lt zero ws ≡ false → zero ≡ lineSlope w t p n
+  pub slope-weightless : lt plus-zero ws ≡ false → plus-zero ≡ lineSlope w t p n
   unfolding lineSlope
   slope-weightless h = rw (le-leb 2 n more, ← e, h)
 
-  module _ (f : wt ≡ weighted w t n) (g : wp ≡ weighted w p n) (num den : Float) (i : num ≡ moment w t (wt ⊘ ws) p (wp ⊘ ws) n) (j : den ≡ moment w t (wt ⊘ ws) t (wt ⊘ ws) n) (h : lt zero ws ≡ true) where
-    pub slope-level : lt zero den ≡ false → zero ≡ lineSlope w t p n
+  module _ (f : wt ≡ weighted w t n) (g : wp ≡ weighted w p n) (num den : Float) (i : num ≡ moment w t (wt ⊘ ws) p (wp ⊘ ws) n) (j : den ≡ moment w t (wt ⊘ ws) t (wt ⊘ ws) n) (h : lt plus-zero ws ≡ true) where
+    pub slope-level : lt plus-zero den ≡ false → plus-zero ≡ lineSlope w t p n
     unfolding lineSlope
     slope-level k = rw (le-leb 2 n more, ← e, ← f, ← j, h, k)
 
-    pub slope-steep : lt zero den ≡ true → num ⊘ den ≡ lineSlope w t p n
+    pub slope-steep : lt plus-zero den ≡ true → num ⊘ den ≡ lineSlope w t p n
     unfolding lineSlope
     slope-steep k = rw (le-leb 2 n more, ← e, ← f, ← g, ← i, ← j, h, k)
 

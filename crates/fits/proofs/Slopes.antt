@@ -7,7 +7,7 @@ use mathlib.Core.List.{List}
 use borrow.Author.Tests.{lt-leb}
 use lib.ListN.{length}
 use lib.Ieee.{Float}
-use Rattle.float.specs.Ops.{_⊘_, zero, minus-zero}
+use Rattle.float.specs.Ops.{_⊘_, plus-zero, minus-zero}
 use Rattle.complex.specs.declared.value.Complex.{Complex}
 use Rattle.complex.specs.Value.{cNorm}
 use Rattle.complex.specs.Rows.{zAt, zFill}
@@ -39,7 +39,7 @@ slope-stored l cur z t n r e h q =
     q ∙ slope-cong (weightIn cur) (λ b. cNorm (z b)) t (phaseIn cur) (phaseOf z) n (λ k b. ap (λ x. x .im) (same k b)) (λ k b. ap (λ x. x .re) (same k b))
 
 -- fewer than two points
-pub slope-none : (iq : List Float) (cyc : Float) (i0 len block : ℕ) → len / block < 2 → zero ≡ slopeOf iq cyc i0 len block
+pub slope-none : (iq : List Float) (cyc : Float) (i0 len block : ℕ) → len / block < 2 → plus-zero ≡ slopeOf iq cyc i0 len block
 unfolding slopeOf lineSlope
 slope-none iq cyc i0 len block h = rw (lt-leb 2 (len / block) h)
 

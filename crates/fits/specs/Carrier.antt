@@ -2,7 +2,7 @@
 use mathlib.Core.Bool.{cond}
 use mathlib.Core.List.{List}
 use lib.Ieee.{Float, lt}
-use Rattle.float.specs.Ops.{_⊖_, _⊗_, _⊘_, zero, two}
+use Rattle.float.specs.Ops.{_⊖_, _⊗_, _⊘_, plus-zero, two}
 use Rattle.float.specs.Compare.{maxOf}
 use Rattle.trig.specs.Consts.{TAU}
 use Rattle.complex.specs.Value.{cNorm}
@@ -12,7 +12,7 @@ use Rattle.lists.specs.Sums.{sumOver}
 
 -- the weight of a fit: interior length × |gain|
 unfoldable pub fitWeight : Float → ElementFit → Float
-fitWeight fs f = maxOf (f .element .end ⊖ f .element .start ⊖ two ⊗ RISE_S ⊗ fs) zero ⊗ cNorm (f .gain)
+fitWeight fs f = maxOf (f .element .end ⊖ f .element .start ⊖ two ⊗ RISE_S ⊗ fs) plus-zero ⊗ cNorm (f .gain)
 
 abbrev pub weightedSlope : Float → ElementFit → Float
 weightedSlope fs f = fitWeight fs f ⊗ f .«slope_rad_per_sample»
@@ -20,6 +20,6 @@ weightedSlope fs f = fitWeight fs f ⊗ f .«slope_rad_per_sample»
 -- the weighted mean of the slopes, in Hz; 0 where the weights do not add up to more than 0
 unfoldable pub meanSlope : Float → List ElementFit → Float
 meanSlope fs fits =
-    let num = sumOver (weightedSlope fs) zero fits in
-    let den = sumOver (fitWeight fs) zero fits in
-    cond (lt zero den) (num ⊘ den ⊗ fs ⊘ TAU) zero
+    let num = sumOver (weightedSlope fs) plus-zero fits in
+    let den = sumOver (fitWeight fs) plus-zero fits in
+    cond (lt plus-zero den) (num ⊘ den ⊗ fs ⊘ TAU) plus-zero

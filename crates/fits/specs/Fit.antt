@@ -3,7 +3,7 @@ use Prim.Native.Nat.{ℕ, _-_}
 use mathlib.Core.Bool.{cond}
 use mathlib.Core.List.{List}
 use lib.Ieee.{Float, le}
-use Rattle.float.specs.Ops.{zero}
+use Rattle.float.specs.Ops.{plus-zero}
 use Rattle.complex.specs.Value.{cDiv}
 use Rattle.row.specs.Window.{samples}
 use Rattle.elements.specs.declared.element.KeyedElement.{KeyedElement}
@@ -23,7 +23,7 @@ fitInside iq cyc block e i0 i1 =
     let slope = slopeOf iq cyc i0 len block in
     let ref = refSample i0 i1 in
     let gain = cDiv (gainSum iq cyc i0 len slope ref) (hannSum len) in
-    cond (le (hannSum len) zero) Skipped (Fitted record { element = e; gain = gain; «slope_rad_per_sample» = slope; «ref_sample» = ref })
+    cond (le (hannSum len) plus-zero) Skipped (Fitted record { element = e; gain = gain; «slope_rad_per_sample» = slope; «ref_sample» = ref })
 
 -- an element with no interior is skipped
 unfoldable pub fitWithin : List Float → Float → ℕ → KeyedElement → Interior → Fit

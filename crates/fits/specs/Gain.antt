@@ -3,7 +3,7 @@
 use Prim.Native.Nat.{ℕ, _+_, _-_}
 use mathlib.Core.List.{List}
 use lib.Ieee.{Float, neg}
-use Rattle.float.specs.Ops.{_⊕_, _⊖_, _⊗_, _⊘_, of, zero, half, two}
+use Rattle.float.specs.Ops.{_⊕_, _⊖_, _⊗_, _⊘_, of, plus-zero, half, two}
 use Rattle.float.specs.Remainder.{remEuclidOf}
 use Rattle.trig.specs.Circle.{cosOf}
 use Rattle.complex.specs.declared.value.Complex.{Complex}
@@ -34,4 +34,4 @@ unfoldable pub gainSum : List Float → Float → ℕ → ℕ → Float → Floa
 gainSum iq cyc i0 len slope ref = cSum (leveled iq cyc i0 len slope ref) 0 len
 
 unfoldable pub hannSum : ℕ → Float
-hannSum len = fSum zero (hann len) len
+hannSum len = fSum plus-zero (hann len) len

@@ -3,7 +3,7 @@
 use Prim.Native.Nat.{ℕ}
 use mathlib.Core.Bool.{Bool, _||_, cond}
 use lib.Ieee.{Float, lt, toUnsigned}
-use Rattle.float.specs.Ops.{_⊕_, _⊖_, _⊗_, of, zero, one}
+use Rattle.float.specs.Ops.{_⊕_, _⊖_, _⊗_, of, plus-zero, one}
 use Rattle.float.specs.Compare.{maxOf}
 use Rattle.float.specs.Whole.{floorOf, ceilOf, roundOf}
 use Rattle.constants.specs.Constants.{RISE_S, MIN_INTERIOR_S, SLOPE_BLOCK_S}
@@ -26,7 +26,7 @@ unfoldable pub unfit : ℕ → Float → Float → Float → Bool
 unfit n fs start end =
     let lo = loOf fs start in
     let hi = hiOf fs end in
-    lt lo zero || (lt (of n) hi || lt (hi ⊖ lo) (of (minLen fs)))
+    lt lo plus-zero || (lt (of n) hi || lt (hi ⊖ lo) (of (minLen fs)))
 
 -- the samples from i0 on, up to but without i1; nothing where the element is skipped
 unfoldable pub interiorOf : ℕ → Float → Float → Float → Interior

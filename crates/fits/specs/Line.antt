@@ -4,7 +4,7 @@ use Prim.Native.Nat.{ℕ, _+_, _*_}
 use mathlib.Core.Bool.{cond}
 use lib.Dec.{leb}
 use lib.Ieee.{Float, lt}
-use Rattle.float.specs.Ops.{_⊖_, _⊗_, _⊘_, zero}
+use Rattle.float.specs.Ops.{_⊖_, _⊗_, _⊘_, plus-zero}
 use Rattle.lists.specs.Sums.{total}
 use Rattle.row.specs.Window.{centreOf}
 
@@ -29,4 +29,4 @@ lineSlope w t p n =
     let pm = weighted w p n ⊘ wsum in
     let num = moment w t tm p pm n in
     let den = moment w t tm t tm n in
-    cond (leb 2 n) (cond (lt zero wsum) (cond (lt zero den) (num ⊘ den) zero) zero) zero
+    cond (leb 2 n) (cond (lt plus-zero wsum) (cond (lt plus-zero den) (num ⊘ den) plus-zero) plus-zero) plus-zero

@@ -6,7 +6,7 @@ use trig::TAU;
 ghost use mathlib.Core.Path.{_≡_};
 ghost use Prim.Native.Nat.{_*_, _≤_};
 ghost use lib.ListN.{length};
-ghost use Rattle.float.specs.Ops.{zero};
+ghost use Rattle.float.specs.Ops.{plus-zero};
 ghost use Rattle.fits.specs.List.{FIT, fitsIn};
 ghost use Rattle.fits.specs.Carrier.{fitWeight, weightedSlope, meanSlope};
 ghost use Rattle.lists.specs.Sums.{sumOver};
@@ -27,7 +27,7 @@ pub struct Slopes {
 
 fn sum_slopes(fits: &[f64], n: usize, fs: f64) -> Slopes
     requires { ⌜ FIT * n ≤ length (now fits) ⌝ }
-    ensures { λ r. ⌜ (r .num ≡ sumOver (weightedSlope fs) zero (fitsIn (now (fits .entry)) n)) × (r .den ≡ sumOver (fitWeight fs) zero (fitsIn (now (fits .entry)) n)) ⌝ }
+    ensures { λ r. ⌜ (r .num ≡ sumOver (weightedSlope fs) plus-zero (fitsIn (now (fits .entry)) n)) × (r .den ≡ sumOver (fitWeight fs) plus-zero (fitsIn (now (fits .entry)) n)) ⌝ }
 {
     let mut num = 0.0;
     let mut den = 0.0;

@@ -18,7 +18,7 @@ use lib.Ieee.Order.{round-mono}
 use lib.Ieee.Bits.{is-false}
 use lib.Ieee.Scale.{finite}
 use lib.Ieee.Positive.{num, den, den-pos, first-pos}
-use Rattle.float.specs.Ops.{_⊕_, _⊖_, _⊗_, _⊘_, zero as nought, half}
+use Rattle.float.specs.Ops.{_⊕_, _⊖_, _⊗_, _⊘_, plus-zero, half}
 use Rattle.float.specs.Root.{sqrtOf}
 use Rattle.float.proofs.Exactly.{neg-round, round-value, fits-says, exponent}
 use Rattle.float.proofs.Compared.{lt→cross, le→value}
@@ -55,7 +55,7 @@ unsigned-signed (inf s) h = absurd h
 unsigned-signed (fin true m e) h = absurd h
 unsigned-signed (fin false m e) h = refl
 
-pub amount-above : {x : Float} → Amount x → T (le nought x)
+pub amount-above : {x : Float} → Amount x → T (le plus-zero x)
 unfolding ofBits
 amount-above {x} h = signed-le x (unsigned-signed x (h .plus))
 

@@ -16,7 +16,7 @@ use lib.Ieee.Exact.{HasValue, round-exact}
 use lib.Ieee.Order.{round-mono}
 use lib.Ieee.Scale.{finite}
 use lib.Ieee.Positive.{num, den, den-pos, first-pos, value→cross}
-use Rattle.float.specs.Ops.{_⊕_, _⊖_, _⊗_, _⊘_, of, zero as nought, one, two, eight}
+use Rattle.float.specs.Ops.{_⊕_, _⊖_, _⊗_, _⊘_, of, plus-zero, one, two, eight}
 use Rattle.float.specs.Compare.{absOf}
 use Rattle.float.specs.Whole.{halfUp, wholeBy, roundOf}
 use Rattle.float.proofs.Exactly.{neg-round, fits-says}
@@ -249,7 +249,7 @@ pub beyond-whole : (n : ℕ) → 1 ≤ n → n ≤ 2 ^ 53 → Beyond (of n)
 beyond-whole n h g = record { far = over-value (of n) false n h (whole-value binary64 n g) }
 
 -- the literals of the code
-pub bounded-zero : Bounded 0 0 nought
+pub bounded-zero : Bounded 0 0 plus-zero
 unfolding ofBits
 bounded-zero = record { bound = lit≤ tt }
 

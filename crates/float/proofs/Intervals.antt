@@ -19,7 +19,7 @@ use lib.Ieee.Scale.{finite}
 use lib.Ieee.Order.{round-mono}
 use lib.Ieee.Back.{round-whole}
 use lib.Ieee.Positive.{positive, positive-of-value, above, above-of-le}
-use Rattle.float.specs.Ops.{zero, of, minus-zero, _⊖_, _⊗_}
+use Rattle.float.specs.Ops.{plus-zero, of, minus-zero, _⊖_, _⊗_}
 use Rattle.float.specs.Whole.{floorOf, ceilOf, roundOf}
 use Rattle.float.proofs.Exactly.{unique, neg-round}
 use Rattle.float.proofs.Compared.{nought, no, unsigned-value}
@@ -210,7 +210,7 @@ nan-cast nan b e t = refl
 nan-cast (inf s) b e t = absurd (subst T (sym e) t)
 nan-cast (fin s m e) b g t = absurd (subst T (sym g) t)
 
-pub ends-ordered : (lo hi : Float) (n m : ℕ) → n ≤ 2 ^ 53 → 0 < m → m ≤ 2 ^ 53 → T (not (isNan hi)) → lt lo zero ≡ false → lt (of n) hi ≡ false → lt (hi ⊖ lo) (of m) ≡ false → (toUnsigned 64 lo ≤ toUnsigned 64 hi) × (toUnsigned 64 hi ≤ n)
+pub ends-ordered : (lo hi : Float) (n m : ℕ) → n ≤ 2 ^ 53 → 0 < m → m ≤ 2 ^ 53 → T (not (isNan hi)) → lt lo plus-zero ≡ false → lt (of n) hi ≡ false → lt (hi ⊖ lo) (of m) ≡ false → (toUnsigned 64 lo ≤ toUnsigned 64 hi) × (toUnsigned 64 hi ≤ n)
 unfolding ofBits
 ends-ordered lo hi n m N M L q a b c = (
   first (isNan lo) refl,
@@ -264,7 +264,7 @@ gap lo hi n N u w o l = go (u .sign) (w .sign) (u .value) (w .value) (u .clear) 
         same a b e = omega arith
     go s true v x c d = absurd (not-under-zero lo hi s (u .count) (w .count) v c x o)
 
-pub interval-is : (x y : Float) (n m : ℕ) → T (finite x) → T (finite y) → n < 2 ^ 53 → 0 < m → m ≤ 2 ^ 53 → lt (ceilOf x) zero ≡ false → lt (of n) (floorOf y) ≡ false → lt (floorOf y ⊖ ceilOf x) (of m) ≡ false → Interval (ceilOf x) (floorOf y) n m
+pub interval-is : (x y : Float) (n m : ℕ) → T (finite x) → T (finite y) → n < 2 ^ 53 → 0 < m → m ≤ 2 ^ 53 → lt (ceilOf x) plus-zero ≡ false → lt (of n) (floorOf y) ≡ false → lt (floorOf y ⊖ ceilOf x) (of m) ≡ false → Interval (ceilOf x) (floorOf y) n m
 unfolding ofBits
 interval-is x y n m f g N M L a b c =
     let lo = ceilOf x in

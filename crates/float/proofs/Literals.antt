@@ -4,12 +4,12 @@ use mathlib.Core.Path.{_≡_, refl}
 use lib.IntN.{negsuc}
 use lib.Ieee.{fin, neg, ofBits, ofInt, add, rem, lt}
 use mathlib.Core.Bool.{true}
-use Rattle.float.specs.Ops.{of, fraction, zero, minus-zero, half, one, two, eight}
+use Rattle.float.specs.Ops.{of, fraction, plus-zero, minus-zero, half, one, two, eight}
 use Rattle.float.specs.Compare.{absOf}
 use Rattle.float.specs.Whole.{roundOf}
 use Rattle.float.specs.Remainder.{remEuclidOf}
 
-pub literals : (zero ≡ of 0) × (minus-zero ≡ neg zero) × (half ≡ fraction 1 2) × (one ≡ of 1) × (two ≡ of 2) × (eight ≡ of 8)
+pub literals : (plus-zero ≡ of 0) × (minus-zero ≡ neg plus-zero) × (half ≡ fraction 1 2) × (one ≡ of 1) × (two ≡ of 2) × (eight ≡ of 8)
 unfolding ofBits ofInt neg fraction
 literals = (refl, refl, refl, refl, refl, refl)
 

@@ -44,9 +44,9 @@ none-above : (m : ℕ) (e : ℤ) → T (not (lt nought (fin false m e))) → m �
 none-above zero e h = refl
 none-above (suc m) e h = absurd (T-not (lt nought (fin false (suc m) e)) h (over-zero (fin false (suc m) e) (suc m * up e) (down e) (mul-pos (zero-lt-suc m) (up-pos e)) (refl, refl)))
 
-plus-zero : (m : ℕ) (e : ℤ) → m ≡ 0 → T (fits binary64 (fin false m e)) → sub binary64 nought (fin false m e) ≡ fin false m e
-plus-zero zero e h t = subst (λ (z : ℤ). sub binary64 nought (fin false 0 z) ≡ fin false 0 z) (sym (zero-exp binary64 false e t)) zero-less
-plus-zero (suc m) e h t = absurd (lt-irrefl 0 (subst (λ (z : ℕ). 0 < z) h (zero-lt-suc m)))
+less-plus : (m : ℕ) (e : ℤ) → m ≡ 0 → T (fits binary64 (fin false m e)) → sub binary64 nought (fin false m e) ≡ fin false m e
+less-plus zero e h t = subst (λ (z : ℤ). sub binary64 nought (fin false 0 z) ≡ fin false 0 z) (sym (zero-exp binary64 false e t)) zero-less
+less-plus (suc m) e h t = absurd (lt-irrefl 0 (subst (λ (z : ℕ). 0 < z) h (zero-lt-suc m)))
 
 turned : (m : ℕ) (e : ℤ) → neg (fin true m e) ≡ fin false m e
 unfolding neg
@@ -69,7 +69,7 @@ abs-other nan t h = refl
 abs-other (inf true) t h = refl
 abs-other (inf false) t h = absurd h
 abs-other (fin true m e) t h = abs-minus m e t
-abs-other (fin false m e) t h = plus-zero m e (none-above m e h) t
+abs-other (fin false m e) t h = less-plus m e (none-above m e h) t
 
 -- ---- a % b where |a| is below |b|
 pub rem-small : (f : Format) (x y : Float) → T (fits f x) → T (lt (absOf x) (absOf y)) → x ≡ rem f x y

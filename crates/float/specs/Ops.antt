@@ -33,8 +33,8 @@ fraction a c = round binary64 false a c
 abbrev pub bits : ℕ → Float
 bits n = ofBits binary64 n
 
-abbrev pub zero : Float
-zero = bits 0
+abbrev pub plus-zero : Float
+plus-zero = bits 0
 
 abbrev pub minus-zero : Float
 minus-zero = bits 0x8000_0000_0000_0000

@@ -7,7 +7,7 @@ use mathlib.Core.Bool.{true, false, and-false}
 use mathlib.Core.List.{List, [], _∷_}
 use lib.ListN.{length}
 use lib.Ieee.{Float, nan, inf, neg, lt, le, eq, isNan, ofBits, ofInt, round, add, sub, mul, div}
-use Rattle.float.specs.Ops.{of, fraction, half, zero}
+use Rattle.float.specs.Ops.{of, fraction, half, plus-zero}
 use Rattle.float.specs.Compare.{maxOf}
 use Rattle.trig.specs.Logarithm.{mantissaOf, exponentOf, series, logOf, log10Of}
 use Rattle.trig.specs.Consts.{LN-2, LN-10}
@@ -88,17 +88,17 @@ module _ (fs : Float) (z : ℕ → Complex) (class : ℕ → BlockClass) (nb : �
 -- ---- ends of `ratio_db`, computed
 
 -- silence in the gaps: the neighbour's level is the smallest normal number, and 4.0 over it is too large
-pub over-silence : ratioDb (Value (of 4)) (floored (Value zero)) ≡ inf false
+pub over-silence : ratioDb (Value (of 4)) (floored (Value plus-zero)) ≡ inf false
 unfolding ratioDb floored maxOf isNan lt MIN_POSITIVE fraction round ofInt ofBits mul div log10Of
 over-silence = refl
 
 -- nothing left: −∞ over a neighbour far above the smallest normal number, and 0 dB over silence, where both sides count
 -- as that number
-pub nothing-left : ratioDb (Value zero) (floored (Value (of (2 ^ 60)))) ≡ inf true
+pub nothing-left : ratioDb (Value plus-zero) (floored (Value (of (2 ^ 60)))) ≡ inf true
 unfolding ratioDb floored maxOf isNan lt MIN_POSITIVE fraction round ofInt ofBits mul div log10Of
 nothing-left = refl
 
-pub nothing-over-silence : ratioDb (Value zero) (floored (Value zero)) ≡ zero
+pub nothing-over-silence : ratioDb (Value plus-zero) (floored (Value plus-zero)) ≡ plus-zero
 unfolding ratioDb floored maxOf isNan lt MIN_POSITIVE fraction round ofInt ofBits add sub mul div neg log10Of mantissaOf exponentOf logOf series LN-2 LN-10
 nothing-over-silence = refl
 

@@ -63,17 +63,17 @@ module _ (iq : List Float) (fs : Float) (s : Singles iq) (q : Iq iq) where
 
 -- ---- their order
 
-plus-zero : (x : Float) → Amount x → minusZero x ≡ false
+not-minus-zero : (x : Float) → Amount x → minusZero x ≡ false
 unfolding minusZero
-plus-zero nan h = refl
-plus-zero (inf s) h = refl
-plus-zero (fin true m e) h = absurd (h .plus)
-plus-zero (fin false zero e) h = refl
-plus-zero (fin false (suc m) e) h = refl
+not-minus-zero nan h = refl
+not-minus-zero (inf s) h = refl
+not-minus-zero (fin true m e) h = absurd (h .plus)
+not-minus-zero (fin false zero e) h = refl
+not-minus-zero (fin false (suc m) e) h = refl
 
 pub order-is : (x y : Float) → Amount x → Amount y → precedes x y ≡ lt x y
 unfolding precedes
-order-is x y p q = rw (plus-zero x p, amount-number q) (go (lt x y) (eq x y))
+order-is x y p q = rw (not-minus-zero x p, amount-number q) (go (lt x y) (eq x y))
   where
     go : (a b : Bool) → (a || (b && false && not (minusZero y)) || (false && not (isNan x))) ≡ a
     go true b = refl

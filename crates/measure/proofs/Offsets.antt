@@ -6,7 +6,7 @@ use mathlib.Core.Bool.{Bool, true, false, cond}
 use mathlib.Core.List.{List}
 use lib.Ieee.{Float, neg, lt, ofBits}
 use borrow.Author.Tests.{eq-eqb, ne-eqb}
-use Rattle.float.specs.Ops.{_⊕_, _⊖_, _⊗_, _⊘_, of, bits, zero, minus-zero}
+use Rattle.float.specs.Ops.{_⊕_, _⊖_, _⊗_, _⊘_, of, bits, plus-zero, minus-zero}
 use Rattle.lists.specs.Those.{picked}
 use Rattle.lists.specs.Sums.{sumOver}
 use Rattle.lists.proofs.Sums.{over-more}
@@ -27,7 +27,7 @@ use Rattle.measure.proofs.Counted.{picked-yes, picked-no}
 -- ---- the loop: before it, a turn that adds a figure, one that does not, and after it. The code's −0.0 is 0.0 negated.
 
 module _ (p : ℕ → Bool) (f : ℕ → Float) where
-  pub over-none : neg zero ≡ sumOver f minus-zero (picked p (λ k. k) 0)
+  pub over-none : neg plus-zero ≡ sumOver f minus-zero (picked p (λ k. k) 0)
   unfolding picked sumOver ofBits neg
   over-none = refl
 

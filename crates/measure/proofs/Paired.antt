@@ -103,7 +103,7 @@ cOver-more start (y ∷ xs) x = cOver-more (cAdd start y) xs x
 -- ---- the loop over the pairs
 
 module _ (s : ℕ → Bool) (z : ℕ → Complex) where
-  pub pairs-none : pairsOf s z 0 ≡ record { count = 0; sum = cZero; size = float.zero }
+  pub pairs-none : pairsOf s z 0 ≡ record { count = 0; sum = cZero; size = float.plus-zero }
   unfolding pairsOf countTo picked cOver sumOver
   pairs-none = refl
 
@@ -119,7 +119,7 @@ module _ (s : ℕ → Bool) (z : ℕ → Complex) where
         ← count-yes (pairAt s) b _ _ t refl e h refl,
         picked-yes (pairAt s) (lagged z) b yes,
         cOver-more cZero (products s z b) (lagged z b),
-        over-more cNorm float.zero (products s z b) (lagged z b),
+        over-more cNorm float.plus-zero (products s z b) (lagged z b),
       )
 
   pub pairs-no : (b : ℕ) (found r : Pairs) (t : Bool) → found ≡ pairsOf s z b → t ≡ pairAt s b → t ≡ false → r ≡ found → r ≡ pairsOf s z (b + 1)

@@ -2,7 +2,7 @@
 use mathlib.Core.Path.{_≡_, refl}
 use mathlib.Core.Bool.{true, false}
 use lib.Ieee.{Float, inf, lt, le, ofBits, ofInt, div}
-use Rattle.float.specs.Ops.{_⊗_, _⊘_, bits, of, zero, one}
+use Rattle.float.specs.Ops.{_⊗_, _⊘_, bits, of, plus-zero, one}
 use Rattle.float.specs.Compare.{maxOf}
 use Rattle.trig.specs.Logarithm.{log10Of}
 use Rattle.constants.proofs.Bits.{min-positive-bits}
@@ -11,7 +11,7 @@ use Rattle.rank.specs.declared.Percentile.the-variants.{Value, Nothing}
 use Rattle.measure.specs.Residual.{ratioDb, floored}
 
 -- 1.0 / 0.0 of the code, and its 10.0
-infinity-is : one ⊘ zero ≡ inf false
+infinity-is : one ⊘ plus-zero ≡ inf false
 unfolding ofBits div
 infinity-is = refl
 
@@ -20,20 +20,20 @@ unfolding ofBits ofInt
 ten-is = refl
 
 module _ (num den : Percentile) where
-  pub no-upper : num ≡ Nothing → one ⊘ zero ≡ ratioDb num den
+  pub no-upper : num ≡ Nothing → one ⊘ plus-zero ≡ ratioDb num den
   unfolding ratioDb
   no-upper e = rw (e, infinity-is)
 
-  pub no-lower : (n : Float) → num ≡ Value n → den ≡ Nothing → one ⊘ zero ≡ ratioDb num den
+  pub no-lower : (n : Float) → num ≡ Value n → den ≡ Nothing → one ⊘ plus-zero ≡ ratioDb num den
   unfolding ratioDb
   no-lower n e f = rw (e, f, infinity-is)
 
   module _ (n d : Float) (e : num ≡ Value n) (f : den ≡ Value d) where
-    pub lower-not-above : lt zero d ≡ false → one ⊘ zero ≡ ratioDb num den
+    pub lower-not-above : lt plus-zero d ≡ false → one ⊘ plus-zero ≡ ratioDb num den
     unfolding ratioDb
     lower-not-above h = rw (e, f, h, infinity-is)
 
-    pub ratio-is : (m l : Float) → lt zero d ≡ true → m ≡ maxOf n (bits 0x0010_0000_0000_0000) → l ≡ log10Of (m ⊘ d) → bits 0x4024_0000_0000_0000 ⊗ l ≡ ratioDb num den
+    pub ratio-is : (m l : Float) → lt plus-zero d ≡ true → m ≡ maxOf n (bits 0x0010_0000_0000_0000) → l ≡ log10Of (m ⊘ d) → bits 0x4024_0000_0000_0000 ⊗ l ≡ ratioDb num den
     unfolding ratioDb
     ratio-is m l h p q = rw (e, f, h, q, p, ten-is, min-positive-bits)
 

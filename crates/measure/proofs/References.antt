@@ -7,7 +7,7 @@ use mathlib.Core.List.{List, _++_}
 use lib.ListN.{length, getD, set, take, drop, length-drop}
 use lib.Seq.{length-take-le, getD-take, getD-drop, take-add, drop-drop, ext-getD}
 use lib.Ieee.{Float, nan, neg, eq, round, ofBits}
-use Rattle.float.specs.Ops.{_⊕_, _⊗_, _⊘_, bits, fraction, zero, half}
+use Rattle.float.specs.Ops.{_⊕_, _⊗_, _⊘_, bits, fraction, plus-zero, half}
 use Rattle.float.specs.Compare.{maxOf}
 use Rattle.lists.specs.Count.{countTo}
 use Rattle.lists.specs.Those.{picked, keep}
@@ -39,7 +39,7 @@ use Rattle.measure.proofs.Gathered.{powers-same}
 pub or-value : (p : Percentile) (v : Float) → p ≡ Value v → v ≡ orZero p
 or-value p v e = rw e
 
-pub or-nothing : (p : Percentile) → p ≡ Nothing → zero ≡ orZero p
+pub or-nothing : (p : Percentile) → p ≡ Nothing → plus-zero ≡ orZero p
 or-nothing p e = rw e
 
 -- ---- the loop that keeps a value of each block whose class has a number, past the numbers of the classes: a turn that

@@ -5,7 +5,7 @@ use mathlib.Core.Bool.{Bool, cond}
 use mathlib.Core.List.{List}
 use lib.Dec.{eqb}
 use lib.Ieee.{Float, lt}
-use Rattle.float.specs.Ops.{_⊘_, of, zero}
+use Rattle.float.specs.Ops.{_⊘_, of, plus-zero}
 use Rattle.complex.specs.declared.value.Complex.{Complex}
 use Rattle.complex.specs.Value.{cNorm}
 use Rattle.row.specs.Window.{windowOf, samples, blocks}
@@ -29,11 +29,11 @@ isIn c class b = isClass c (class b)
 
 -- `hot_fraction`: the share of hot blocks among the gap blocks, 0 without any
 unfoldable pub hotFraction : Gaps → Float
-hotFraction g = cond (eqb (g .blocks) 0) zero (of (g .hot) ⊘ of (g .blocks))
+hotFraction g = cond (eqb (g .blocks) 0) plus-zero (of (g .hot) ⊘ of (g .blocks))
 
 -- `coherence`: |Σz| / Σ|z| of the pairs' products, 0 where there is nothing to divide by
 unfoldable pub coherenceOf : Pairs → Float
-coherenceOf p = cond (lt zero (p .size)) (cNorm (p .sum) ⊘ p .size) zero
+coherenceOf p = cond (lt plus-zero (p .size)) (cNorm (p .sum) ⊘ p .size) plus-zero
 
 -- Of nb blocks with the means z at the carrier: `gap` and `interior` tell the blocks of these classes, and `mean c` is
 -- the row of block means at the carrier c.

@@ -74,7 +74,7 @@ cOver start (x ∷ xs) = cOver (cAdd start x) xs
 -- how many pairs there are, the sum `acc` of their products, and `mag`, that of the products' sizes
 unfoldable pub pairsOf : (ℕ → Bool) → (ℕ → Complex) → ℕ → Pairs
 pairsOf s z nb =
-    record { count = countTo (pairAt s) nb; sum = cOver cZero (products s z nb); size = sumOver cNorm float.zero (products s z nb) }
+    record { count = countTo (pairAt s) nb; sum = cOver cZero (products s z nb); size = sumOver cNorm float.plus-zero (products s z nb) }
 
 -- block b is in a pair: it is strong, and so is a neighbour
 unfoldable pub inPair : (ℕ → Bool) → ℕ → ℕ → Bool

@@ -5,7 +5,7 @@ use Prim.Native.Nat.{ℕ, _^_}
 use mathlib.Core.Bool.{Bool}
 use mathlib.Core.List.{List, _++_}
 use lib.Ieee.{Float, neg}
-use Rattle.float.specs.Ops.{_⊕_, _⊗_, fraction, zero, half}
+use Rattle.float.specs.Ops.{_⊕_, _⊗_, fraction, plus-zero, half}
 use Rattle.float.specs.Compare.{maxOf}
 use Rattle.lists.specs.Those.{picked}
 use Rattle.constants.specs.Constants.{REFERENCE_OFFSET_HZ, MIN_POSITIVE}
@@ -18,7 +18,7 @@ use Rattle.measure.specs.Powers.{power}
 -- `unwrap_or(0.0)`
 abbrev pub orZero : Percentile → Float
 orZero (Value v) = v
-orZero Nothing = zero
+orZero Nothing = plus-zero
 
 -- the median of a list, 0 of an empty one
 abbrev pub medianOf : List Float → Float

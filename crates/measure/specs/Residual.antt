@@ -5,7 +5,7 @@ use mathlib.Core.Bool.{Bool, false, _&&_, cond}
 use mathlib.Core.List.{List}
 use lib.ListN.{length}
 use lib.Ieee.{Float, inf, lt, le}
-use Rattle.float.specs.Ops.{_⊗_, _⊘_, of, zero, half}
+use Rattle.float.specs.Ops.{_⊗_, _⊘_, of, plus-zero, half}
 use Rattle.float.specs.Compare.{maxOf}
 use Rattle.trig.specs.Logarithm.{log10Of}
 use Rattle.constants.specs.Constants.{NEIGHBOUR_PERCENTILE, MIN_POSITIVE, CLEAN_EDGE_OVER_NEIGHBOUR_DB, CLEAN_INTERIOR_OVER_NEIGHBOUR_DB}
@@ -27,7 +27,7 @@ use Rattle.measure.specs.Left.{residualMean}
 -- cancel.rs's `ratio_db`: +∞ where a side is missing or the lower one is not above 0; the upper one counts as no less
 -- than the smallest normal number
 unfoldable pub ratioDb : Percentile → Percentile → Float
-ratioDb (Value n) (Value d) = cond (lt zero d) (of 10 ⊗ log10Of (maxOf n MIN_POSITIVE ⊘ d)) (inf false)
+ratioDb (Value n) (Value d) = cond (lt plus-zero d) (of 10 ⊗ log10Of (maxOf n MIN_POSITIVE ⊘ d)) (inf false)
 ratioDb (Value n) Nothing = inf false
 ratioDb Nothing d = inf false
 

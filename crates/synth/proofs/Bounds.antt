@@ -6,7 +6,7 @@ use mathlib.Core.Path.{sym, ap}
 use mathlib.Core.Bool.{Bool, true, false, cond}
 use lib.Dec.{T, lit≤}
 use lib.Ieee.{Float, nan, inf, fin, le, eq, neg, down, ofBits}
-use Rattle.float.specs.Ops.{_⊘_, half, two, zero as nought}
+use Rattle.float.specs.Ops.{_⊘_, half, two, plus-zero}
 use Rattle.float.specs.Size.{sized}
 use Rattle.float.proofs.Within.{Within, le-within}
 use Rattle.float.proofs.Bounds.{Bounded, bounded-zero, bounded-one, bounded-more, bounded-cond, bounded-add, bounded-sub, bounded-mul}
@@ -41,7 +41,7 @@ polar-bounded w t h =
 pub synth-bounded : (fs : Float) (f : ElementFit) (k : ℕ) {j a : ℕ} → CBounded j a (f .gain) → a * 4 + a * 4 ≤ 2 ^ 53 → j + 100 ≤ 970
     → CBounded (j + 100) (a * 4 + a * 4) (synthAt fs f k)
 unfolding synthAt
-synth-bounded fs f k {j} {a} gain few small = go (eq (envelopeOf fs (f .element) k) nought)
+synth-bounded fs f k {j} {a} gain few small = go (eq (envelopeOf fs (f .element) k) plus-zero)
   where
     go : (t : Bool) → CBounded (j + 100) (a * 4 + a * 4) (cond t cZero (cMul (f .gain) (cPolar (envelopeOf fs (f .element) k) (tiltAt f k))))
     go true = cbounded-zero

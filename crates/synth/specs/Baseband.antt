@@ -2,7 +2,7 @@
 use Prim.Native.Nat.{ℕ}
 use mathlib.Core.Bool.{cond}
 use lib.Ieee.{Float, eq}
-use Rattle.float.specs.Ops.{_⊖_, _⊗_, _⊘_, of, zero}
+use Rattle.float.specs.Ops.{_⊖_, _⊗_, _⊘_, of, plus-zero}
 use Rattle.float.specs.Remainder.{remEuclidOf}
 use Rattle.trig.specs.Consts.{TAU}
 use Rattle.complex.specs.declared.value.Complex.{Complex}
@@ -22,4 +22,4 @@ tiltAt f k = remEuclidOf (f .«slope_rad_per_sample» ⊗ (of k ⊖ f .«ref_sam
 unfoldable pub synthAt : Float → ElementFit → ℕ → Complex
 synthAt fs f k =
     let env = envelopeOf fs (f .element) k in
-    cond (eq env zero) cZero (cMul (f .gain) (cPolar env (tiltAt f k)))
+    cond (eq env plus-zero) cZero (cMul (f .gain) (cPolar env (tiltAt f k)))

@@ -4,7 +4,7 @@ use Prim.Native.Nat.{ℕ, min}
 use mathlib.Core.Bool.{Bool, _&&_}
 use lib.Dec.{leb, ltb}
 use lib.Ieee.{Float, toUnsigned}
-use Rattle.float.specs.Ops.{_⊕_, _⊖_, _⊗_, zero, two}
+use Rattle.float.specs.Ops.{_⊕_, _⊖_, _⊗_, plus-zero, two}
 use Rattle.float.specs.Compare.{maxOf}
 use Rattle.float.specs.Whole.{floorOf, ceilOf}
 use Rattle.constants.specs.Constants.{RISE_S}
@@ -19,8 +19,8 @@ padOf fs = two ⊗ RISE_S ⊗ fs
 unfoldable pub spanOf : Float → ℕ → ElementFit → Span
 spanOf fs n f =
     let e = f .element in
-    let hi = min (toUnsigned 64 (maxOf (ceilOf (e .end ⊕ padOf fs)) zero)) n in
-    record { lo = min (toUnsigned 64 (maxOf (floorOf (e .start ⊖ padOf fs)) zero)) hi; hi = hi }
+    let hi = min (toUnsigned 64 (maxOf (ceilOf (e .end ⊕ padOf fs)) plus-zero)) n in
+    record { lo = min (toUnsigned 64 (maxOf (floorOf (e .start ⊖ padOf fs)) plus-zero)) hi; hi = hi }
 
 -- whether sample k is one of them
 abbrev pub covers : Span → ℕ → Bool

@@ -6,7 +6,7 @@ use native.Mathlib.Nat.{le-trans, le-of-eq}
 use lib.Dec.{T, leb, leb→le, nleb→lt, lit≤, lit<}
 use lib.ListN.{getD, List·getD-eq-default}
 use lib.Ieee.{Float, round, div, le, ofInt}
-use Rattle.float.specs.Ops.{of, fraction, zero as nought, _⊘_}
+use Rattle.float.specs.Ops.{of, fraction, plus-zero, _⊘_}
 use Rattle.float.specs.Compare.{absOf}
 use Rattle.float.proofs.Bounds.{Bounded, bounded-zero, bounded-more, bounded-shift, bounded-neg, bounded-cond, bounded-add, bounded-sub, bounded-mul, bounded-div, bounded-round, bounded-whole, bounded-ratio, bounded-le, beyond-whole}
 use Rattle.trig.specs.Consts.{PI}
@@ -69,10 +69,10 @@ small-cosine r h =
 -- ---- the sine and the cosine
 
 -- 0.0 where the test |x| ≤ 7 fails
-tested : {k a : ℕ} (x y : Float) → (Bounded 0 7 x → Bounded k a y) → Bounded k a (cond (le (absOf x) (of 7)) y nought)
+tested : {k a : ℕ} (x y : Float) → (Bounded 0 7 x → Bounded k a y) → Bounded k a (cond (le (absOf x) (of 7)) y plus-zero)
 tested {k} {a} x y h = go (le (absOf x) (of 7)) (bounded-le x 7 (lit≤ tt))
   where
-    go : (t : Bool) → (T t → Bounded 0 7 x) → Bounded k a (cond t y nought)
+    go : (t : Bool) → (T t → Bounded 0 7 x) → Bounded k a (cond t y plus-zero)
     go true g = h (g tt)
     go false g = bounded-more bounded-zero zero-le zero-le
 

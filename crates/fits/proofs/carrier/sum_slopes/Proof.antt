@@ -2,7 +2,7 @@
 use Prim.Native.Nat.{_≤_, _-_}
 use mathlib.Core.Path.{_≡_, refl, ap₂}
 use borrow.Author.Needs.{needs}
-use Rattle.float.specs.Ops.{_⊗_, zero}
+use Rattle.float.specs.Ops.{_⊗_, plus-zero}
 use Rattle.fits.specs.List.{fitsIn}
 use Rattle.fits.specs.Carrier.{fitWeight, weightedSlope}
 use Rattle.lists.specs.Sums.{sumOver}
@@ -12,7 +12,7 @@ use Rattle.fits.proofs.carrier.sum_slopes.Tie as tie
 
 abbrev Inv-loop : tie.InvT-loop
 Inv-loop fits n fs num₀ den₀ k₀ num den k =
-    (k ≤ n) × (num ≡ sumOver (weightedSlope fs) zero (fitsIn fits k)) × (den ≡ sumOver (fitWeight fs) zero (fitsIn fits k))
+    (k ≤ n) × (num ≡ sumOver (weightedSlope fs) plus-zero (fitsIn fits k)) × (den ≡ sumOver (fitWeight fs) plus-zero (fitsIn fits k))
 
 abbrev μ-loop : tie.MeasureT-loop
 μ-loop fits n fs num₀ den₀ k₀ num den k = n - k

@@ -2,7 +2,7 @@
 use Prim.Native.Nat.{_≤_, _-_}
 use native.Mathlib.Omega.{arith}
 use mathlib.Core.Path.{_≡_}
-use Rattle.float.specs.Ops.{zero}
+use Rattle.float.specs.Ops.{plus-zero}
 use Rattle.complex.specs.Rows.{cSum}
 use Rattle.lists.specs.Sums.{fSum}
 use Rattle.fits.specs.Gain.{hann, leveled, gainSum, hannSum}
@@ -12,7 +12,7 @@ use Rattle.fits.proofs.gain.weigh.Tie as tie
 
 abbrev Inv-loop : tie.InvT-loop
 Inv-loop iq cyc i0 len slope reference sine sum₀ weight₀ j₀ sum weight j =
-    (j ≤ len) × (sum ≡ cSum (leveled iq cyc i0 len slope reference) 0 j) × (weight ≡ fSum zero (hann len) j)
+    (j ≤ len) × (sum ≡ cSum (leveled iq cyc i0 len slope reference) 0 j) × (weight ≡ fSum plus-zero (hann len) j)
 
 abbrev μ-loop : tie.MeasureT-loop
 μ-loop iq cyc i0 len slope reference sine sum₀ weight₀ j₀ sum weight j = len - j
