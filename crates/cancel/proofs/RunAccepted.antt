@@ -10,7 +10,7 @@ use Rattle.fits.specs.declared.fit.ElementFit.{ElementFit}
 use Rattle.fits.specs.List.{FIT}
 use Rattle.fits.specs.Estimate.{strongElements, strongFits}
 use Rattle.engine.specs.declared.run.Figures.{Figures}
-use Rattle.engine.specs.Run.{runOf, runBuffer}
+use Rattle.engine.specs.Run.{runFigures, runBuffer}
 use Rattle.cancel.specs.Answers.{accepted, refused}
 use Rattle.cancel.specs.Questions.{firstNo}
 use Rattle.cancel.specs.Running.{runQuestions, RunResult, runRule}
@@ -29,7 +29,7 @@ module _ (buf : List Float) (fs hint : Float) (elements fits work : List Float) 
   run-refused n lent e = refused-by _ _ _ n lent e
 
   pub run-done : (r : RunResult) → accepted r ≡ runRule buf fs hint elements fits work
-      → (firstNo (runQuestions buf fs hint (length elements) (length fits) (length work)) ≡ 0) × (r .figures ≡ runOf buf fs hint) × (r .buffer ≡ runBuffer buf fs hint)
+      → (firstNo (runQuestions buf fs hint (length elements) (length fits) (length work)) ≡ 0) × (r .figures ≡ runFigures buf fs hint) × (r .buffer ≡ runBuffer buf fs hint)
       × (r .elements ≡ handed ELEMENT (strongElements buf fs hint) elements) × (r .fits ≡ handed FIT (strongFits buf fs hint) fits)
   unfolding runRule
   run-done r e =

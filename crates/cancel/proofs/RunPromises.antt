@@ -46,7 +46,7 @@ use Rattle.measure.specs.Hypothesis.{hypothesisOf}
 use Rattle.measure.proofs.Reach.{AgreeIn, residual-reach}
 use Rattle.measure.proofs.ReachEvidence.{evidence-check-reach}
 use Rattle.engine.specs.declared.run.Figures.{Figures}
-use Rattle.engine.specs.Run.{takes, runClass, runTaken, runOf, runBuffer}
+use Rattle.engine.specs.Run.{takes, runClass, runTaken, runFigures, runBuffer}
 use Rattle.cancel.specs.declared.running.RunAnswer.the-variants.{Done}
 use Rattle.cancel.specs.Running.{runOutcome, runRule}
 use Rattle.cancel.proofs.EstimateAccepted.{estimate-accepted}
@@ -61,7 +61,7 @@ module _ (buf : List Float) (fs hint : Float) (elements fits work : List Float) 
   abbrev fitted : List ElementFit
   fitted = fitsIn fits-left (f .estimate .fitted)
 
-  figures-are : f ≡ runOf buf fs hint
+  figures-are : f ≡ runFigures buf fs hint
   figures-are = run-done buf fs hint elements fits work _ promise .1
 
   buffer-is : after ≡ runBuffer buf fs hint
@@ -74,7 +74,7 @@ module _ (buf : List Float) (fs hint : Float) (elements fits work : List Float) 
   fitted-are = fits-read fits-left fits _ _ (run-done buf fs hint elements fits work _ promise .4)
 
   estimate-is : f .estimate ≡ strongEstimate buf fs hint
-  unfolding runOf
+  unfolding runFigures
   estimate-is = ap (λ (g : Figures). g .estimate) figures-are
 
   at-refined : f .estimate .«carrier_hz» ≡ refined buf fs hint
@@ -109,15 +109,15 @@ module _ (buf : List Float) (fs hint : Float) (elements fits work : List Float) 
   fitted-counted = sym (length-firsts (fitAt fits-left) (f .estimate .fitted))
 
   pub skipped-is : f .skipped ≡ length (skippedOf buf fs (f .estimate .«carrier_hz») listed)
-  unfolding runOf
+  unfolding runFigures
   skipped-is = rw (listed-are, at-refined) (ap (λ (g : Figures). g .skipped) figures-are)
 
   pub samples-is : f .samples ≡ samples buf
-  unfolding runOf
+  unfolding runFigures
   samples-is = ap (λ (g : Figures). g .samples) figures-are
 
   pub window-is : f .window ≡ windowOf fs
-  unfolding runOf
+  unfolding runFigures
   window-is = ap (λ (g : Figures). g .window) figures-are
 
   -- ---- The counts balance for every accepted run.
@@ -126,32 +126,32 @@ module _ (buf : List Float) (fs hint : Float) (elements fits work : List Float) 
   key-downs-balance = rw estimate-is (all-counted buf fs (refined buf fs hint))
 
   pub listed-balance : f .estimate .found .listed ≡ f .estimate .fitted + f .skipped
-  unfolding runOf
+  unfolding runFigures
   listed-balance = rw figures-are (sym (strong-counted buf fs hint))
 
   pub blocks-balance : f .blocks ≡ f .classes .edge + f .classes .interior + f .classes .gap + f .classes .other
-  unfolding runOf
+  unfolding runFigures
   blocks-balance = rw figures-are (sym (blocks-counted (runClass buf fs hint) (blocks buf (windowOf fs))))
 
   -- ---- Each figure is the one 01 defines, with the elements and fits that are handed out, those of the second pass.
   pub blocks-are : f .blocks ≡ blocks buf (windowOf fs)
-  unfolding runOf
+  unfolding runFigures
   blocks-are = ap (λ (g : Figures). g .blocks) figures-are
 
   pub classes-are : f .classes ≡ countsOf (classOf fs (samples buf) fitted listed) (f .blocks)
-  unfolding runOf
+  unfolding runFigures
   classes-are = rw (fitted-are, listed-are, blocks-are) (ap (λ (g : Figures). g .classes) figures-are)
 
   pub residual-is : f .residual ≡ residualCheckOf buf fs (f .estimate .«carrier_hz») fitted listed
-  unfolding runOf
+  unfolding runFigures
   residual-is = rw (fitted-are, listed-are, at-refined) (ap (λ (g : Figures). g .residual) figures-are)
 
   pub evidence-is : f .evidence ≡ evidenceCheckOf buf fs (f .estimate .«carrier_hz») fitted listed
-  unfolding runOf
+  unfolding runFigures
   evidence-is = rw (fitted-are, listed-are, at-refined) (ap (λ (g : Figures). g .evidence) figures-are)
 
   pub hypothesis-is : f .hypothesis ≡ hypothesisOf (f .evidence)
-  unfolding runOf
+  unfolding runFigures
   hypothesis-is = rw figures-are
 
   -- ---- The list holds the key-downs whose computed length is at least RISE_S × fs, each once, in order, nothing else.
@@ -167,11 +167,11 @@ module _ (buf : List Float) (fs hint : Float) (elements fits work : List Float) 
 
   -- ---- The word: taken exactly when all four hold.
   pub taken-exactly : f .taken ≡ takes (f .hypothesis) (f .estimate .fitted) (f .estimate .«carrier_step_hz») (f .residual)
-  unfolding runOf runTaken strongEstimate
+  unfolding runFigures runTaken strongEstimate
   taken-exactly = rw figures-are
 
   is-taken : runTaken buf fs hint ≡ f .taken
-  unfolding runOf
+  unfolding runFigures
   is-taken = sym (ap (λ (g : Figures). g .taken) figures-are)
 
   -- A run that says kept changes no sample.

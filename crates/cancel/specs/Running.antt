@@ -10,7 +10,7 @@ use Rattle.fits.specs.declared.fit.ElementFit.{ElementFit}
 use Rattle.fits.specs.List.{FIT, handedFits}
 use Rattle.fits.specs.Estimate.{strongElements, strongFits}
 use Rattle.engine.specs.declared.run.Figures.{Figures}
-use Rattle.engine.specs.Run.{runOf, runBuffer}
+use Rattle.engine.specs.Run.{runFigures, runBuffer}
 use Rattle.cancel.specs.declared.running.RunAnswer.{RunAnswer}
 use Rattle.cancel.specs.declared.running.RunAnswer.the-variants.{Refused, Done}
 use Rattle.cancel.specs.Answers.{Outcome, accepted, refused, byNumber}
@@ -45,7 +45,7 @@ unfoldable pub runRule : List Float → Float → Float → List Float → List 
 runRule buf fs hint elements fits work =
     byNumber (firstNo (runQuestions buf fs hint (length elements) (length fits) (length work)))
     (record {
-      figures = runOf buf fs hint;
+      figures = runFigures buf fs hint;
       buffer = runBuffer buf fs hint;
       elements = handed ELEMENT (strongElements buf fs hint) elements;
       fits = handed FIT (strongFits buf fs hint) fits;

@@ -19,7 +19,7 @@ use Rattle.complex.specs.declared.value.Complex.{Complex}
 use Rattle.complex.specs.Value.{cNew, cZero, cAdd, cSub, cMul, cConj, cDiv, cNorm}
 use Rattle.complex.specs.Rows.{zAt, cSum}
 use Rattle.row.specs.Blocks.{rotorOf, derot, meanFrom, blockMean}
-use Rattle.row.specs.Envelope.{runOf, amplitude}
+use Rattle.row.specs.Envelope.{runningSum, amplitude}
 use Rattle.row.proofs.Unturned.{rotor-unturned}
 use Rattle.elements.specs.Ones.{isOne, onesOf}
 use Rattle.elements.proofs.KeyDowns.{either}
@@ -133,8 +133,8 @@ module _ (iq : List Float) (n : ℕ) (b T : ℕ → ℕ) (few : n ≤ 2 ^ 20) (b
       first-few : (i : ℕ) → i ≤ 8 → T i ≤ 8
       first-few i l = let here : i + 0 ≡ i = omega arith in omega (arith, ones-high i 0, ap T here)
 
-  run-real : (i : ℕ) → 8 + i ≤ n → runOf (blockMean iq (of 0) 1) i ≡ real (T (8 + i) - T i)
-  unfolding runOf
+  run-real : (i : ℕ) → 8 + i ≤ n → runningSum (blockMean iq (of 0) 1) i ≡ real (T (8 + i) - T i)
+  unfolding runningSum
   run-real zero h = let all : T 8 ≡ T 8 - T 0 = omega arith in sum-real 8 (omega arith) h ∙ ap real all
   run-real (suc i) h =
       let z = blockMean iq (of 0) 1 in

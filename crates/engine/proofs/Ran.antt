@@ -19,7 +19,7 @@ use Rattle.measure.specs.declared.hypothesis.Hypothesis.{Hypothesis}
 use Rattle.measure.specs.Both.{measuresOf}
 use Rattle.measure.specs.Hypothesis.{hypothesisOf}
 use Rattle.engine.specs.declared.run.Figures.{Figures}
-use Rattle.engine.specs.Run.{takes, runEvidence, runResidual, runTaken, runOf, runBuffer}
+use Rattle.engine.specs.Run.{takes, runEvidence, runResidual, runTaken, runFigures, runBuffer}
 use Rattle.engine.proofs.Counts.{skipped-is}
 
 module _ (iq : List Float) (fs hint : Float) (e : Estimate) (q : e ≡ strongEstimate iq fs hint) (els l fits k : List Float)
@@ -64,9 +64,9 @@ module _ (iq : List Float) (fs hint : Float) (e : Estimate) (q : e ≡ strongEst
         hypothesis = h;
         taken = taken;
       })
-      (runOf iq fs hint))
+      (runFigures iq fs hint))
       × (buf ≡ runBuffer iq fs hint)
-  unfolding measuresOf runTaken runOf runBuffer
+  unfolding measuresOf runTaken runFigures runBuffer
   run-is step m h taken buf s made told says left =
       let all = measures-of m made in
       let residual : m .residual ≡ runResidual iq fs hint = ap (λ (x : Measures). x .residual) all in

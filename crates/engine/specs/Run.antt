@@ -51,8 +51,8 @@ module _ (iq : List Float) (fs hint : Float) where
   runTaken = takes (hypothesisOf runEvidence) (length (strongFits iq fs hint)) (carrierStep iq fs hint) runResidual
 
   -- every figure, and whether the strong sender was taken off
-  unfoldable pub runOf : Figures
-  runOf =
+  unfoldable pub runFigures : Figures
+  runFigures =
       record {
         samples = samples iq;
         window = windowOf fs;

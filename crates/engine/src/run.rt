@@ -22,7 +22,7 @@ ghost use Rattle.elements.specs.Element.{ELEMENT, handed, handedElements};
 ghost use Rattle.fits.specs.List.{FIT, fitsIn, handedFits};
 ghost use Rattle.fits.specs.Estimate.{strongElements, strongFits};
 ghost use Rattle.synth.specs.Removal.{subtracted};
-ghost use Rattle.engine.specs.Run.{isTwo, takes, runOf, runBuffer};
+ghost use Rattle.engine.specs.Run.{isTwo, takes, runFigures, runBuffer};
 
 // Every figure of a run, and whether the strong sender was taken off.
 pub struct Figures {
@@ -104,7 +104,7 @@ pub fn run(
     requires { ⌜ ELEMENT * (stepBlocks (now buf) fs / 2) ≤ length (now elements) ⌝ }
     requires { ⌜ FIT * (stepBlocks (now buf) fs / 2) ≤ length (now fits) ⌝ }
     requires { ⌜ 4 * stepBlocks (now buf) fs ≤ length (now work) ⌝ }
-    ensures { λ r. ⌜ (r ≡ runOf (now (buf .entry)) fs hint)
+    ensures { λ r. ⌜ (r ≡ runFigures (now (buf .entry)) fs hint)
         × (now (buf .exit) ≡ runBuffer (now (buf .entry)) fs hint)
         × (handedElements (now (elements .exit)) (r .estimate .found .listed)
         ≡ handed ELEMENT (strongElements (now (buf .entry)) fs hint) (now (elements .entry)))

@@ -23,7 +23,7 @@ use Rattle.float.specs.Size.{finiteF}
 use Rattle.row.specs.Samples.{Iq}
 use Rattle.row.specs.Window.{stepOf, blocks}
 use Rattle.row.specs.Blocks.{rotorOf, derot, meanFrom, blockMean}
-use Rattle.row.specs.Envelope.{runOf, amplitude, rowOf, rowLength}
+use Rattle.row.specs.Envelope.{runningSum, amplitude, rowOf, rowLength}
 use Rattle.row.specs.Inner.{movedBy}
 use Rattle.row.proofs.Finite.{finite-at}
 use Rattle.row.proofs.Means.{blocks-short, block-fits}
@@ -34,12 +34,12 @@ use Rattle.row.proofs.Steps.{step-low}
 run-grows : (b i : ℕ) → 8 * b + suc i * (b + b) ≡ 8 * b + i * (b + b) + (b + b)
 run-grows b i = let more : suc i * (b + b) ≡ i * (b + b) + (b + b) = suc-mul i (b + b) in omega arith
 
-pub run-bounded : {k b : ℕ} (z : ℕ → Complex) (i : ℕ) → ((j : ℕ) → j < 8 + i → CBounded k b (z j)) → 8 * b + i * (b + b) ≤ 2 ^ 53 → k ≤ 970 → CBounded k (8 * b + i * (b + b)) (runOf z i)
-unfolding runOf
+pub run-bounded : {k b : ℕ} (z : ℕ → Complex) (i : ℕ) → ((j : ℕ) → j < 8 + i → CBounded k b (z j)) → 8 * b + i * (b + b) ≤ 2 ^ 53 → k ≤ 970 → CBounded k (8 * b + i * (b + b)) (runningSum z i)
+unfolding runningSum
 run-bounded {k} {b} z zero each h g = cbounded-more (cbounded-sum z 0 8 (λ j l. each (0 + j) (omega arith)) (omega arith) g) (omega arith) (omega arith)
 run-bounded {k} {b} z (suc i) each h g =
     let more : 8 * b + suc i * (b + b) ≡ 8 * b + i * (b + b) + (b + b) = run-grows b i in
-    subst (λ (a : ℕ). CBounded k a (movedBy z i (runOf z i))) (sym more)
+    subst (λ (a : ℕ). CBounded k a (movedBy z i (runningSum z i))) (sym more)
     (cbounded-add
     (run-bounded z i (λ j l. each j (omega arith)) (omega arith) g)
     (cbounded-sub (each (8 + i) (omega arith)) (each i (omega arith)) (omega arith) g)
@@ -87,7 +87,7 @@ block-bounded iq cyc len b s q p h = mean-bounded iq cyc (b * len) len s q p (bl
 pub amplitude-amount : (iq : List Float) (cyc : Float) (len i : ℕ) → Singles iq → Iq iq → 0 < len → i < blocks iq len - 7 → Amount (amplitude (blockMean iq cyc len) i)
 amplitude-amount iq cyc len i s q p h =
     let few : blocks iq len ≤ 1048576 = blocks-short iq len (q .short) in
-    let run : CBounded 178 (8 * 2 + i * (2 + 2)) (runOf (blockMean iq cyc len) i) =
+    let run : CBounded 178 (8 * 2 + i * (2 + 2)) (runningSum (blockMean iq cyc len) i) =
     run-bounded (blockMean iq cyc len) i (λ j l. block-bounded iq cyc len j s q p (omega arith)) (omega arith) (lit≤ tt) in
     norm-amount {k = 178} {a = 2 ^ 23} (cbounded-more (cbounded-div run beyond-eight (omega arith) (lit≤ tt)) (omega arith) (lit≤ tt)) (lit≤ tt) (lit≤ tt)
 

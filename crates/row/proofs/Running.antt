@@ -13,16 +13,16 @@ use Rattle.complex.specs.Rows.{zAt, cSum}
 use Rattle.complex.proofs.RowLaws.{cSum-cong, zAt-fill-below}
 use Rattle.lists.specs.Fill.{fill}
 use Rattle.lists.proofs.Fill.{fill-turn}
-use Rattle.row.specs.Envelope.{runOf, amplitude}
+use Rattle.row.specs.Envelope.{runningSum, amplitude}
 use Rattle.row.specs.Inner.{movedBy}
 
-pub run-none : (z : ℕ → Complex) (run : Complex) → run ≡ cSum z 0 8 → run ≡ runOf z 0
-unfolding runOf
+pub run-none : (z : ℕ → Complex) (run : Complex) → run ≡ cSum z 0 8 → run ≡ runningSum z 0
+unfolding runningSum
 run-none z run e = e
 
 -- what is stored in a turn
 pub amplitude-is : (z : ℕ → Complex) (i n : ℕ) (run mean : Complex) (v : Float)
-    → run ≡ runOf z i → mean ≡ cDiv run eight → v ≡ cNorm mean → i ≤ n → n ≤ i → v ≡ amplitude z n
+    → run ≡ runningSum z i → mean ≡ cDiv run eight → v ≡ cNorm mean → i ≤ n → n ≤ i → v ≡ amplitude z n
 amplitude-is z i n run mean v p q e h g = let here : i ≡ n = omega arith in rw (e, q, p, here)
 
 -- the last store
@@ -34,13 +34,13 @@ moved-cong : (y z : ℕ → Complex) (i : ℕ) (run : Complex) → y (8 + i) ≡
 moved-cong y z i run h g = rw (h, g)
 
 pub run-turn : (l cur : List Float) (at : ℕ) (f : ℕ → Float) (n i : ℕ) (run r : Complex)
-    → cur ≡ fill l at f n → run ≡ runOf (zAt l) i → r ≡ movedBy (zAt cur) i run → 2 * (8 + i) + 1 < at → r ≡ runOf (zAt l) (i + 1)
-unfolding runOf
+    → cur ≡ fill l at f n → run ≡ runningSum (zAt l) i → r ≡ movedBy (zAt cur) i run → 2 * (8 + i) + 1 < at → r ≡ runningSum (zAt l) (i + 1)
+unfolding runningSum
 run-turn l cur at f n i run r p q e h =
     rw (add-one, e, p, q)
-    (moved-cong (zAt (fill l at f n)) (zAt l) i (runOf (zAt l) i) (zAt-fill-below l at f n (8 + i) h) (zAt-fill-below l at f n i (omega arith)))
+    (moved-cong (zAt (fill l at f n)) (zAt l) i (runningSum (zAt l) i) (zAt-fill-below l at f n (8 + i) h) (zAt-fill-below l at f n i (omega arith)))
 
-pub run-cong : (y z : ℕ → Complex) (n : ℕ) → ((k : ℕ) → k < 8 + n → y k ≡ z k) → runOf y n ≡ runOf z n
-unfolding runOf
+pub run-cong : (y z : ℕ → Complex) (n : ℕ) → ((k : ℕ) → k < 8 + n → y k ≡ z k) → runningSum y n ≡ runningSum z n
+unfolding runningSum
 run-cong y z zero h = cSum-cong y z 0 8 h
 run-cong y z (suc n) h = rw (run-cong y z n (λ k b. h k (omega arith)), h (8 + n) (omega arith), h n (omega arith))

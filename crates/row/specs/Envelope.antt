@@ -11,13 +11,13 @@ use Rattle.row.specs.Window.{stepOf, stepBlocks}
 use Rattle.row.specs.Blocks.{blockMean}
 
 -- the running sum of eight neighbours: what comes in is added, less what goes out
-unfoldable pub runOf : (ℕ → Complex) → ℕ → Complex
-runOf z zero = cSum z 0 8
-runOf z (suc i) = cAdd (runOf z i) (cSub (z (8 + i)) (z i))
+unfoldable pub runningSum : (ℕ → Complex) → ℕ → Complex
+runningSum z zero = cSum z 0 8
+runningSum z (suc i) = cAdd (runningSum z i) (cSub (z (8 + i)) (z i))
 
 -- the size of its mean
 abbrev pub amplitude : (ℕ → Complex) → ℕ → Float
-amplitude z i = cNorm (cDiv (runOf z i) eight)
+amplitude z i = cNorm (cDiv (runningSum z i) eight)
 
 -- number i of the row of a recording at a rate and a carrier
 unfoldable pub rowOf : List Float → Float → Float → ℕ → Float

@@ -6,7 +6,7 @@ use mathlib.Core.Path.{_≡_}
 use lib.ListN.{length}
 use Rattle.complex.specs.Rows.{zAt}
 use Rattle.lists.specs.Fill.{fill}
-use Rattle.row.specs.Envelope.{runOf, amplitude}
+use Rattle.row.specs.Envelope.{runningSum, amplitude}
 use Rattle.row.proofs.Laws.{laws}
 use Rattle.row.proofs.Running.{run-turn, row-done}
 use Rattle.row.proofs.envelope.running.Statement.{statement}
@@ -14,7 +14,7 @@ use Rattle.row.proofs.envelope.running.Tie as tie
 
 abbrev Inv-loop : tie.InvT-loop
 Inv-loop work₀ b o n run₀ i₀ work run i =
-    (i ≤ n) × (length work ≡ length work₀) × (run ≡ runOf (zAt work₀) i) × (work ≡ fill work₀ o (amplitude (zAt work₀)) i)
+    (i ≤ n) × (length work ≡ length work₀) × (run ≡ runningSum (zAt work₀) i) × (work ≡ fill work₀ o (amplitude (zAt work₀)) i)
 
 abbrev μ-loop : tie.MeasureT-loop
 μ-loop work₀ b o n run₀ i₀ work run i = n - i
