@@ -22,7 +22,7 @@ use Rattle.classes.specs.declared.class.BlockClass.{BlockClass}
 use Rattle.classes.specs.declared.class.BlockClass.the-variants.{Gap, Interior}
 use Rattle.measure.specs.declared.offset.Offset.{Offset}
 use Rattle.measure.specs.declared.offset.Offset.the-variants.{Hz, Absent}
-use Rattle.measure.specs.Powers.{power}
+use Rattle.measure.specs.Powers.{blockPower}
 use Rattle.measure.specs.Pairs.{above, strong, preceded, pairAt, pairsOf, IsPair, pairBlocks}
 use Rattle.measure.specs.Offset.{f0Of, strongest, powerAt, offsetFrom}
 use Rattle.measure.specs.Evidence.{isIn, evidenceWith, evidenceBy, meanAt, referenceOf, evidenceOf}
@@ -43,10 +43,10 @@ module _ (gap : ℕ → Bool) (z : ℕ → Complex) (ref : Float) (nb : ℕ) whe
         a,
         record {
           inside = omega arith;
-          first-gap = and-left (gap a) (lt level (power z a)) one;
-          second-gap = rw (add-one a) (and-left (gap (suc a)) (lt level (power z (suc a))) two);
-          first-above = and-right (gap a) (lt level (power z a)) one;
-          second-above = rw (add-one a) (and-right (gap (suc a)) (lt level (power z (suc a))) two);
+          first-gap = and-left (gap a) (lt level (blockPower z a)) one;
+          second-gap = rw (add-one a) (and-left (gap (suc a)) (lt level (blockPower z (suc a))) two);
+          first-above = and-right (gap a) (lt level (blockPower z a)) one;
+          second-above = rw (add-one a) (and-right (gap (suc a)) (lt level (blockPower z (suc a))) two);
         },
       )
 
@@ -54,7 +54,7 @@ module _ (gap : ℕ → Bool) (z : ℕ → Complex) (ref : Float) (nb : ℕ) whe
   unfolding pairAt preceded above
   is-pair a p =
       let g : gap (suc a) ≡ true = rw (add-one a) at (p .second-gap) in
-      let h : lt (PAIR_FACTOR ⊗ ref) (power z (suc a)) ≡ true = rw (add-one a) at (p .second-above) in
+      let h : lt (PAIR_FACTOR ⊗ ref) (blockPower z (suc a)) ≡ true = rw (add-one a) at (p .second-above) in
       rw (add-one a, p .first-gap, p .first-above, g, h)
 
   some-pair : 0 < pairsOf (strong gap z ref) z nb .count → (a : ℕ) × IsPair gap z ref nb a

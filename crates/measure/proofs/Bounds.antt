@@ -36,7 +36,7 @@ use Rattle.synth.specs.Baseband.{synthAt}
 use Rattle.synth.proofs.Bounds.{synth-sized}
 use Rattle.classes.specs.declared.class.BlockClass.{BlockClass}
 use Rattle.classes.specs.Class.{isClass}
-use Rattle.measure.specs.Powers.{power, powersOf}
+use Rattle.measure.specs.Powers.{blockPower, powersOf}
 use Rattle.measure.specs.Left.{takenFrom, lessFit, lessFits, residualMean}
 
 -- a bound with its power of two taken apart
@@ -121,7 +121,7 @@ module _ (iq : List Float) (fs cyc : Float) (fits : List ElementFit) (s : Single
   abbrev left : ℕ → Complex
   left = residualMean fs (blocks iq (windowOf fs)) fits (blockMean iq cyc (windowOf fs))
 
-  pub left-amount : (b : ℕ) → b < blocks iq (windowOf fs) → Amount (power left b)
+  pub left-amount : (b : ℕ) → b < blocks iq (windowOf fs) → Amount (blockPower left b)
   left-amount b h =
       let low = step-low fs in
       let high = step-high fs r in
@@ -133,7 +133,7 @@ module _ (iq : List Float) (fs cyc : Float) (fits : List ElementFit) (s : Single
   -- each list of them, and what is ranked in it
   pub left-powers : (class : ℕ → BlockClass) (c : BlockClass) (i : ℕ) → i < length (powersOf c class left (blocks iq (windowOf fs)))
       → Amount (getD (powersOf c class left (blocks iq (windowOf fs))) i nan)
-  left-powers class c = picked-holds Amount (λ b. isClass c (class b)) (power left) (blocks iq (windowOf fs)) left-amount
+  left-powers class c = picked-holds Amount (λ b. isClass c (class b)) (blockPower left) (blocks iq (windowOf fs)) left-amount
 
   pub left-ranked : (class : ℕ → BlockClass) (c : BlockClass) (p v : Float) → percentileOf (powersOf c class left (blocks iq (windowOf fs))) p ≡ Value v → Amount v
   left-ranked class c p v e = percentile-keeps Amount (powersOf c class left (blocks iq (windowOf fs))) p v (left-powers class c) e

@@ -24,7 +24,7 @@ use Rattle.classes.specs.Class.{codeOf, isClass}
 use Rattle.classes.specs.Classify.{countsOf}
 use Rattle.measure.specs.declared.powers.Level.{Level}
 use Rattle.measure.specs.declared.residual.ResidualCheck.{ResidualCheck}
-use Rattle.measure.specs.Powers.{power, powersOf}
+use Rattle.measure.specs.Powers.{blockPower, powersOf}
 use Rattle.measure.specs.Left.{lessFits, residualMean}
 use Rattle.measure.specs.Residual.{figuresOf, residualOf}
 use Rattle.measure.specs.Inner.{Prepared, Lessened, classIn, powerIn, powersIn, figuresFrom, residualIn}
@@ -51,9 +51,9 @@ windowed fs step nb r e h =
 
 -- the powers of what is left, in the slice that the fits were taken off in
 module _ (w v : List Float) (left : ℕ → Complex) (nb : ℕ) (l : Lessened w v left nb) where
-  pub powers-left : (c : BlockClass) → powersIn v (2 * nb) (2 * nb) nb c ≡ picked (classIn w (2 * nb) c) (power left) nb
+  pub powers-left : (c : BlockClass) → powersIn v (2 * nb) (2 * nb) nb c ≡ picked (classIn w (2 * nb) c) (blockPower left) nb
   powers-left c =
-      picked-cong (classIn v (2 * nb) c) (classIn w (2 * nb) c) (powerIn v (2 * nb)) (power left) nb
+      picked-cong (classIn v (2 * nb) c) (classIn w (2 * nb) c) (powerIn v (2 * nb)) (blockPower left) nb
       (λ b h. ap (λ x. eq x (codeOf c)) (take-at v w (4 * nb) (l .kept) (2 * nb + b) (omega arith)))
       (λ b h t. ap cNormSqr (l .mean b h))
 
@@ -77,7 +77,7 @@ unfolding residualIn figuresOf
 residual-is w v0 v1 v2 v3 nb step fs fits edge interior gap r s l a b c e =
     let b' = ranked-on v1 v2 v0 nb Interior half interior (a .kept) b in
     let c' = ranked-on v2 v3 v0 nb Gap NEIGHBOUR_PERCENTILE gap (b' .kept) c in
-    let q : (x : BlockClass) → powersIn v0 (2 * nb) (2 * nb) nb x ≡ picked (classIn w (2 * nb) x) (power (residualMean fs nb fits (zAt w))) nb =
+    let q : (x : BlockClass) → powersIn v0 (2 * nb) (2 * nb) nb x ≡ picked (classIn w (2 * nb) x) (blockPower (residualMean fs nb fits (zAt w))) nb =
     λ x. powers-left w v0 (residualMean fs nb fits (zAt w)) nb (rw s at l) x in (
       rw (e, a .value, b' .value, c' .value, a .count, b' .count, c' .count, q Edge, q Interior, q Gap),
       take-less v3 v0 (6 * nb) (3 * nb) (c' .kept) (omega arith) ∙ take-less v0 w (4 * nb) (3 * nb) (l .kept) (omega arith),
@@ -89,9 +89,9 @@ pub residual-prepared : (w : List Float) (z : ℕ → Complex) (class : ℕ → 
 unfolding residualIn residualOf
 residual-prepared w z class nb fs fits p = rw (same Edge, same Interior, same Gap)
   where
-    same : (c : BlockClass) → picked (classIn w (2 * nb) c) (power (residualMean fs nb fits (zAt w))) nb ≡ powersOf c class (residualMean fs nb fits z) nb
+    same : (c : BlockClass) → picked (classIn w (2 * nb) c) (blockPower (residualMean fs nb fits (zAt w))) nb ≡ powersOf c class (residualMean fs nb fits z) nb
     same c =
-        picked-cong (classIn w (2 * nb) c) (λ b. isClass c (class b)) (power (residualMean fs nb fits (zAt w))) (power (residualMean fs nb fits z)) nb
+        picked-cong (classIn w (2 * nb) c) (λ b. isClass c (class b)) (blockPower (residualMean fs nb fits (zAt w))) (blockPower (residualMean fs nb fits z)) nb
         (λ b h. class-prepared w z class nb c b p h)
         (λ b h t. ap (λ y. cNormSqr (lessFits fs (windowOf fs) nb fits b y)) (p .mean b h))
 

@@ -20,7 +20,7 @@ use Rattle.rank.specs.Percentile.{percentileOf}
 use Rattle.classes.specs.declared.class.BlockClass.{BlockClass}
 use Rattle.classes.specs.Class.{codeOf, isClass}
 use Rattle.classes.proofs.Codes.{code-tells}
-use Rattle.measure.specs.Powers.{power, powersOf}
+use Rattle.measure.specs.Powers.{blockPower, powersOf}
 use Rattle.measure.proofs.Parts.{zAt-same, zAt-below, take-same, take-at}
 use Rattle.measure.specs.Inner.{Prepared, hasCode, classIn, powerIn, powersIn}
 
@@ -96,7 +96,7 @@ class-prepared w z class nb c b p h = ap (λ x. eq x (codeOf c)) (p .class b h) 
 pub powers-prepared : (w : List Float) (z : ℕ → Complex) (class : ℕ → BlockClass) (nb : ℕ) (c : BlockClass)
     → Prepared w z class nb → picked (classIn w (2 * nb) c) (powerIn w 0) nb ≡ powersOf c class z nb
 powers-prepared w z class nb c p =
-    picked-cong (classIn w (2 * nb) c) (λ b. isClass c (class b)) (powerIn w 0) (power z) nb
+    picked-cong (classIn w (2 * nb) c) (λ b. isClass c (class b)) (powerIn w 0) (blockPower z) nb
     (λ b h. class-prepared w z class nb c b p h)
     (λ b h t. let here : 0 + b ≡ b = omega arith in ap cNormSqr (rw here (p .mean b h)))
 

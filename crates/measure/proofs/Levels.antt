@@ -23,7 +23,7 @@ use Rattle.row.specs.Window.{stepOf, windowOf, blocks}
 use Rattle.row.specs.Blocks.{blockMean}
 use Rattle.row.proofs.Steps.{step-low}
 use Rattle.row.proofs.Bounds.{Singles, block-bounded}
-use Rattle.measure.specs.Powers.{power}
+use Rattle.measure.specs.Powers.{blockPower}
 use Rattle.measure.specs.Reference.{sideOf, referenceFrom}
 use Rattle.measure.specs.Evidence.{meanAt}
 
@@ -45,7 +45,7 @@ every-picked P p f (suc n) h = every-append P (picked p f n) _ (every-picked P p
 -- ---- the powers
 
 module _ (iq : List Float) (fs : Float) (s : Singles iq) (q : Iq iq) where
-  pub power-amount : (c : Float) (b : ℕ) → b < blocks iq (windowOf fs) → Amount (power (meanAt iq fs c) b)
+  pub power-amount : (c : Float) (b : ℕ) → b < blocks iq (windowOf fs) → Amount (blockPower (meanAt iq fs c) b)
   power-amount c b h =
       let low : 1 ≤ stepOf fs = step-low fs in
       let z = block-bounded iq (c ⊘ fs) (windowOf fs) b s q (omega arith) h in
@@ -53,12 +53,12 @@ module _ (iq : List Float) (fs : Float) (s : Singles iq) (q : Iq iq) where
 
   module _ (p : ℕ → Bool) (nb : ℕ) (few : nb ≤ blocks iq (windowOf fs)) where
     -- those of the blocks that pass a test, as the gap blocks and the interior blocks
-    pub powers-amounts : (c : Float) → Every Amount (picked p (power (meanAt iq fs c)) nb)
-    powers-amounts c = every-picked Amount p (power (meanAt iq fs c)) nb (λ b h. power-amount c b (omega arith))
+    pub powers-amounts : (c : Float) → Every Amount (picked p (blockPower (meanAt iq fs c)) nb)
+    powers-amounts c = every-picked Amount p (blockPower (meanAt iq fs c)) nb (λ b h. power-amount c b (omega arith))
 
     pub side-amounts : (carrier : Float) → Every Amount (sideOf (meanAt iq fs) carrier p nb)
     side-amounts carrier =
-        every-append Amount (picked p (power (meanAt iq fs (carrier ⊕ neg REFERENCE_OFFSET_HZ))) nb) _ (powers-amounts (carrier ⊕ neg REFERENCE_OFFSET_HZ))
+        every-append Amount (picked p (blockPower (meanAt iq fs (carrier ⊕ neg REFERENCE_OFFSET_HZ))) nb) _ (powers-amounts (carrier ⊕ neg REFERENCE_OFFSET_HZ))
         (powers-amounts (carrier ⊕ REFERENCE_OFFSET_HZ))
 
 -- ---- their order

@@ -19,7 +19,7 @@ use Rattle.measure.specs.declared.offset.Offset.{Offset}
 use Rattle.measure.specs.declared.offset.Offset.the-variants.{Hz, Absent}
 use Rattle.measure.specs.declared.offset.Candidate.{Candidate}
 use Rattle.measure.specs.declared.pairs.Pairs.{Pairs}
-use Rattle.measure.specs.Powers.{power}
+use Rattle.measure.specs.Powers.{blockPower}
 use Rattle.measure.specs.Offset.{powerAt, stronger, strongest, offsetFrom}
 use Rattle.measure.specs.Evidence.{meanAt}
 use Rattle.measure.proofs.Counted.{picked-yes, picked-no}
@@ -47,7 +47,7 @@ module _ (p : ℕ → Bool) (f : ℕ → Float) where
 -- ---- the power at an offset, and the strongest of three offsets
 
 pub measured-is : (iq : List Float) (fs carrier : Float) (len : ℕ) (blocks : List ℕ) (f r : Float)
-    → r ≡ sumOver (power (blockMean iq ((carrier ⊕ f) ⊘ fs) len)) minus-zero blocks → len ≡ windowOf fs → r ≡ powerAt (meanAt iq fs) carrier blocks f
+    → r ≡ sumOver (blockPower (blockMean iq ((carrier ⊕ f) ⊘ fs) len)) minus-zero blocks → len ≡ windowOf fs → r ≡ powerAt (meanAt iq fs) carrier blocks f
 unfolding powerAt
 measured-is iq fs carrier len blocks f r e w = rw (e, w)
 

@@ -14,7 +14,7 @@ use Rattle.lists.specs.Those.{those, picked}
 use Rattle.lists.proofs.Those.{those-append, picked-cong}
 use Rattle.complex.specs.declared.value.Complex.{Complex}
 use Rattle.complex.specs.Value.{cMul, cConj}
-use Rattle.measure.specs.Powers.{power}
+use Rattle.measure.specs.Powers.{blockPower}
 use Rattle.measure.specs.Pairs.{above, preceded, followed, pairAt, products, inPair, pairBlocks}
 use Rattle.measure.specs.Pushed.{Window, window, gapIdx, windows, passes, passing, lastIs, push, pushed}
 
@@ -166,12 +166,12 @@ map-picked f p g (suc n) = map-append f (picked p g n) (cond (p n) (g n ∷ []) 
 
 module _ (gap : ℕ → Bool) (z : ℕ → Complex) (level : Float) (nb : ℕ) where
   -- `p` of each window that passes
-  pub rust-products : map (λ w. cMul (z (w .b)) (cConj (z (w .a)))) (passing gap (λ b. lt level (power z b)) nb) ≡ products (above gap z level) z nb
+  pub rust-products : map (λ w. cMul (z (w .b)) (cConj (z (w .a)))) (passing gap (λ b. lt level (blockPower z b)) nb) ≡ products (above gap z level) z nb
   unfolding above
   rust-products =
-      ap (map _) (windows-are gap (λ b. lt level (power z b)) nb) ∙ map-picked _ (pairAt (above gap z level)) (λ b. window (b - 1) b) nb
+      ap (map _) (windows-are gap (λ b. lt level (blockPower z b)) nb) ∙ map-picked _ (pairAt (above gap z level)) (λ b. window (b - 1) b) nb
 
   -- `pair_blocks`
-  pub rust-blocks : pushed [] (passing gap (λ b. lt level (power z b)) nb) ≡ pairBlocks (above gap z level) nb
+  pub rust-blocks : pushed [] (passing gap (λ b. lt level (blockPower z b)) nb) ≡ pairBlocks (above gap z level) nb
   unfolding above
-  rust-blocks = ap (pushed []) (windows-are gap (λ b. lt level (power z b)) nb) ∙ pushed-are (above gap z level) nb
+  rust-blocks = ap (pushed []) (windows-are gap (λ b. lt level (blockPower z b)) nb) ∙ pushed-are (above gap z level) nb

@@ -24,7 +24,7 @@ use Rattle.classes.specs.declared.class.BlockClass.the-variants.{Edge, Interior
 use Rattle.classes.specs.Class.{isClass}
 use Rattle.classes.specs.Classify.{timesOf, timesOfFit, classOf}
 use Rattle.classes.proofs.ByTimes.{class-by-times}
-use Rattle.measure.specs.Powers.{power, powersOf}
+use Rattle.measure.specs.Powers.{blockPower, powersOf}
 use Rattle.measure.specs.Left.{takenFrom, lessFit, lessFits, residualMean}
 use Rattle.measure.specs.Residual.{residualOf, residualCheckOf}
 
@@ -124,6 +124,6 @@ module _ (iq iq' : List Float) (fs carrier : Float) (fits fits' : List ElementFi
 
       same : (c : BlockClass) → isClass c Other ≡ false → powersOf c class (residualMean fs nb fits z) nb ≡ powersOf c class' (residualMean fs nb fits' z') nb
       same c o =
-          picked-cong (λ b. isClass c (class b)) (λ b. isClass c (class' b)) (power (residualMean fs nb fits z)) (power (residualMean fs nb fits' z')) nb
+          picked-cong (λ b. isClass c (class b)) (λ b. isClass c (class' b)) (blockPower (residualMean fs nb fits z)) (blockPower (residualMean fs nb fits' z')) nb
           (λ b h. ap (isClass c) (alike b))
           (λ b h t. ap cNormSqr (means b h (measured c (class b) o (ap (isClass c) (alike b) ∙ t))))

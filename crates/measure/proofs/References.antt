@@ -27,7 +27,7 @@ use Rattle.rank.specs.declared.Percentile.{Percentile}
 use Rattle.rank.specs.declared.Percentile.the-variants.{Value, Nothing}
 use Rattle.rank.specs.Percentile.{percentileOf}
 use Rattle.measure.specs.Inner.{hasCode, classIn, powerIn, powersIn}
-use Rattle.measure.specs.Powers.{power}
+use Rattle.measure.specs.Powers.{blockPower}
 use Rattle.measure.specs.Reference.{orZero, medianOf, sideOf, referenceFrom, referenceBy}
 use Rattle.measure.specs.Evidence.{meanAt}
 use Rattle.measure.proofs.Counted.{count-yes, count-no}
@@ -137,8 +137,8 @@ module _ (w u v : List Float) (codes : ℕ) (code : Float) (f g : ℕ → Float)
 -- the powers to both sides of the carrier
 pub side-is : (iq : List Float) (fs carrier : Float) (len : ℕ) (gap : ℕ → Bool) (nb : ℕ) (l : List Float) (p : Percentile) (r : Float)
     → p ≡ percentileOf l half → r ≡ orZero p
-    → l ≡ picked gap (power (blockMean iq ((carrier ⊕ neg (bits 0x407f_4000_0000_0000)) ⊘ fs) len)) nb
-    ++ picked gap (power (blockMean iq ((carrier ⊕ bits 0x407f_4000_0000_0000) ⊘ fs) len)) nb
+    → l ≡ picked gap (blockPower (blockMean iq ((carrier ⊕ neg (bits 0x407f_4000_0000_0000)) ⊘ fs) len)) nb
+    ++ picked gap (blockPower (blockMean iq ((carrier ⊕ bits 0x407f_4000_0000_0000) ⊘ fs) len)) nb
     → len ≡ windowOf fs → r ≡ medianOf (sideOf (meanAt iq fs) carrier gap nb)
 side-is iq fs carrier len gap nb l p r e o h w = rw (o, e, h, w, reference-offset-bits)
 
@@ -158,7 +158,7 @@ unfolding referenceBy referenceFrom
 reference-is mean carrier w v nb p side inner first r a s q o e h =
     rw (h, e, s, o, q, powers-same v w 0 (2 * nb) nb Interior (3 * nb) a (omega arith) (omega arith), from-zero, floor-bits, min-positive-bits)
   where
-    from-zero : powersIn w 0 (2 * nb) nb Interior ≡ picked (classIn w (2 * nb) Interior) (power (zAt w)) nb
+    from-zero : powersIn w 0 (2 * nb) nb Interior ≡ picked (classIn w (2 * nb) Interior) (blockPower (zAt w)) nb
     from-zero =
-        picked-cong (classIn w (2 * nb) Interior) (classIn w (2 * nb) Interior) (powerIn w 0) (power (zAt w)) nb (λ b l. refl)
+        picked-cong (classIn w (2 * nb) Interior) (classIn w (2 * nb) Interior) (powerIn w 0) (blockPower (zAt w)) nb (λ b l. refl)
         (λ b l t. let here : 0 + b ≡ b = omega arith in rw here)

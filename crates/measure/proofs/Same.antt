@@ -20,7 +20,7 @@ use Rattle.constants.specs.Constants.{REFERENCE_OFFSET_HZ}
 use Rattle.complex.specs.declared.value.Complex.{Complex}
 use Rattle.complex.specs.Value.{cMul, cConj, cNormSqr}
 use Rattle.row.specs.Window.{windowOf}
-use Rattle.measure.specs.Powers.{power}
+use Rattle.measure.specs.Powers.{blockPower}
 use Rattle.measure.specs.Reference.{sideOf, referenceFrom, referenceBy}
 use Rattle.measure.specs.Pairs.{above, hot, strong, gapsOf, preceded, followed, pairAt, lagged, products, pairsOf, inPair, pairBlocks}
 use Rattle.measure.specs.Offset.{powerAt, stronger, strongest, offsetFrom}
@@ -70,7 +70,7 @@ in-strong s nb b e = and-left (s b) (preceded s b || followed s nb b) e
 -- what is above a level is a gap block
 pub above-gap : (gap : ℕ → Bool) (z : ℕ → Complex) (level : Float) (b : ℕ) → above gap z level b ≡ true → gap b ≡ true
 unfolding above
-above-gap gap z level b e = and-left (gap b) (lt level (power z b)) e
+above-gap gap z level b e = and-left (gap b) (lt level (blockPower z b)) e
 
 -- ---- rows of means that agree at the gap blocks
 
@@ -79,7 +79,7 @@ module _ (gap gap' : ℕ → Bool) (z z' : ℕ → Complex) (nb : ℕ) (same : (
   unfolding above
   above-same level b h = rw (same b h) (go (gap' b) refl)
     where
-      go : (c : Bool) → gap' b ≡ c → (c && lt level (power z b)) ≡ (c && lt level (power z' b))
+      go : (c : Bool) → gap' b ≡ c → (c && lt level (blockPower z b)) ≡ (c && lt level (blockPower z' b))
       go true e = rw (alike b h e)
       go false e = refl
 
@@ -150,7 +150,7 @@ module _ (mean mean' : Float → ℕ → Complex) (gap gap' : ℕ → Bool) (z z
   unfolding powerAt
   power-same carrier ref f =
       let s = strong gap' z' ref in
-      over-same (inPair s nb) (power (mean (carrier ⊕ f))) (power (mean' (carrier ⊕ f))) minus-zero nb
+      over-same (inPair s nb) (blockPower (mean (carrier ⊕ f))) (blockPower (mean' (carrier ⊕ f))) minus-zero nb
       (λ b h e. ap cNormSqr (others (carrier ⊕ f) b h (above-gap gap' z' _ b (in-strong s nb b e))))
 
   offset-same : (carrier rate ref : Float)
@@ -178,11 +178,11 @@ module _ (mean mean' : Float → ℕ → Complex) (gap gap' : ℕ → Bool) (z z
         rw (
           side-same (carrier ⊕ neg REFERENCE_OFFSET_HZ),
           side-same (carrier ⊕ REFERENCE_OFFSET_HZ),
-          picked-cong interior interior' (power z) (power z') nb insides (λ b h e. ap cNormSqr (within b h e)),
+          picked-cong interior interior' (blockPower z) (blockPower z') nb insides (λ b h e. ap cNormSqr (within b h e)),
         )
       where
-        side-same : (c : Float) → picked gap (power (mean c)) nb ≡ picked gap' (power (mean' c)) nb
-        side-same c = picked-cong gap gap' (power (mean c)) (power (mean' c)) nb same (λ b h e. ap cNormSqr (others c b h e))
+        side-same : (c : Float) → picked gap (blockPower (mean c)) nb ≡ picked gap' (blockPower (mean' c)) nb
+        side-same c = picked-cong gap gap' (blockPower (mean c)) (blockPower (mean' c)) nb same (λ b h e. ap cNormSqr (others c b h e))
 
     pub evidence-same : (fs carrier : Float) → evidenceBy mean fs carrier gap interior z nb ≡ evidenceBy mean' fs carrier gap' interior' z' nb
     unfolding evidenceBy

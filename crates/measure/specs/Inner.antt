@@ -18,7 +18,7 @@ use Rattle.fits.specs.declared.fit.ElementFit.{ElementFit}
 use Rattle.measure.specs.declared.pairs.Pairs.{Pairs}
 use Rattle.measure.specs.declared.powers.Level.{Level}
 use Rattle.measure.specs.declared.residual.ResidualCheck.{ResidualCheck}
-use Rattle.measure.specs.Powers.{power}
+use Rattle.measure.specs.Powers.{blockPower}
 use Rattle.measure.specs.Left.{residualMean}
 use Rattle.measure.specs.Residual.{ratioDb, floored, figuresOf}
 
@@ -63,7 +63,7 @@ figuresFrom edge interior gap =
 -- the residual check of what a prepared slice holds
 unfoldable pub residualIn : List Float → ℕ → Float → List ElementFit → ResidualCheck
 residualIn w nb fs fits =
-    let left = power (residualMean fs nb fits (zAt w)) in
+    let left = blockPower (residualMean fs nb fits (zAt w)) in
     figuresOf (picked (classIn w (2 * nb) Edge) left nb) (picked (classIn w (2 * nb) Interior) left nb) (picked (classIn w (2 * nb) Gap) left nb)
 
 -- what was found of the pairs, with one more pair, whose product is p

@@ -13,11 +13,11 @@ use Rattle.complex.specs.Value.{cArg}
 use Rattle.measure.specs.declared.offset.Offset.{Offset}
 use Rattle.measure.specs.declared.offset.Offset.the-variants.{Hz, Absent}
 use Rattle.measure.specs.declared.pairs.Pairs.{Pairs}
-use Rattle.measure.specs.Powers.{power}
+use Rattle.measure.specs.Powers.{blockPower}
 
 -- `power`: the sum of the powers of some blocks at the carrier + f. Rust's `.sum()` starts at −0.0.
 unfoldable pub powerAt : (Float → ℕ → Complex) → Float → List ℕ → Float → Float
-powerAt mean carrier blocks f = sumOver (power (mean (carrier ⊕ f))) minus-zero blocks
+powerAt mean carrier blocks f = sumOver (blockPower (mean (carrier ⊕ f))) minus-zero blocks
 
 -- a later one wins only when strictly stronger
 abbrev pub stronger : (Float → Float) → Float → Float → Float

@@ -16,11 +16,11 @@ use Rattle.complex.specs.declared.value.Complex.{Complex}
 use Rattle.complex.specs.Value.{cZero, cAdd, cMul, cConj, cNorm}
 use Rattle.measure.specs.declared.pairs.Gaps.{Gaps}
 use Rattle.measure.specs.declared.pairs.Pairs.{Pairs}
-use Rattle.measure.specs.Powers.{power}
+use Rattle.measure.specs.Powers.{blockPower}
 
 -- a gap block whose power is above a level
 unfoldable pub above : (ℕ → Bool) → (ℕ → Complex) → Float → ℕ → Bool
-above gap z level b = gap b && lt level (power z b)
+above gap z level b = gap b && lt level (blockPower z b)
 
 -- A gap block is hot above HOT_FACTOR × reference.
 abbrev pub hot : (ℕ → Bool) → (ℕ → Complex) → Float → ℕ → Bool
@@ -36,8 +36,8 @@ pub record IsPair (gap : ℕ → Bool) (z : ℕ → Complex) (ref : Float) (nb b
   pub inside : b + 1 < nb
   pub first-gap : gap b ≡ true
   pub second-gap : gap (b + 1) ≡ true
-  pub first-above : lt (PAIR_FACTOR ⊗ ref) (power z b) ≡ true
-  pub second-above : lt (PAIR_FACTOR ⊗ ref) (power z (b + 1)) ≡ true
+  pub first-above : lt (PAIR_FACTOR ⊗ ref) (blockPower z b) ≡ true
+  pub second-above : lt (PAIR_FACTOR ⊗ ref) (blockPower z (b + 1)) ≡ true
 
 -- how many gap blocks there are, and how many of them are hot
 unfoldable pub gapsOf : (ℕ → Bool) → (ℕ → Complex) → Float → ℕ → Gaps

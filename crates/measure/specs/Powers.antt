@@ -10,9 +10,9 @@ use Rattle.classes.specs.declared.class.BlockClass.{BlockClass}
 use Rattle.classes.specs.Class.{isClass}
 
 -- the power of block b, by the blocks' means
-abbrev pub power : (ℕ → Complex) → ℕ → Float
-power z b = cNormSqr (z b)
+abbrev pub blockPower : (ℕ → Complex) → ℕ → Float
+blockPower z b = cNormSqr (z b)
 
 -- the powers of the blocks of class c, in order
 abbrev pub powersOf : BlockClass → (ℕ → BlockClass) → (ℕ → Complex) → ℕ → List Float
-powersOf c class z nb = picked (λ b. isClass c (class b)) (power z) nb
+powersOf c class z nb = picked (λ b. isClass c (class b)) (blockPower z) nb

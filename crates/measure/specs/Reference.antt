@@ -13,7 +13,7 @@ use Rattle.complex.specs.declared.value.Complex.{Complex}
 use Rattle.rank.specs.declared.Percentile.{Percentile}
 use Rattle.rank.specs.declared.Percentile.the-variants.{Value, Nothing}
 use Rattle.rank.specs.Percentile.{percentileOf}
-use Rattle.measure.specs.Powers.{power}
+use Rattle.measure.specs.Powers.{blockPower}
 
 -- `unwrap_or(0.0)`
 abbrev pub orZero : Percentile → Float
@@ -26,7 +26,7 @@ medianOf l = orZero (percentileOf l half)
 
 -- the powers of the gap blocks at a carrier
 abbrev pub gapPowers : (Float → ℕ → Complex) → (ℕ → Bool) → ℕ → Float → List Float
-gapPowers mean gap nb c = picked gap (power (mean c)) nb
+gapPowers mean gap nb c = picked gap (blockPower (mean c)) nb
 
 -- `side`: those at the carrier − REFERENCE_OFFSET_HZ, and then those at the carrier + REFERENCE_OFFSET_HZ
 abbrev pub sideOf : (Float → ℕ → Complex) → Float → (ℕ → Bool) → ℕ → List Float
@@ -39,4 +39,4 @@ referenceFrom side interior = maxOf (maxOf (medianOf side) (fraction 1 (10 ^ 12)
 
 -- of nb blocks with the means z at the carrier, where `gap` and `interior` tell the blocks of these classes
 unfoldable pub referenceBy : (Float → ℕ → Complex) → Float → (ℕ → Bool) → (ℕ → Bool) → (ℕ → Complex) → ℕ → Float
-referenceBy mean carrier gap interior z nb = referenceFrom (sideOf mean carrier gap nb) (picked interior (power z) nb)
+referenceBy mean carrier gap interior z nb = referenceFrom (sideOf mean carrier gap nb) (picked interior (blockPower z) nb)

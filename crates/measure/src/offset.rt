@@ -18,7 +18,7 @@ ghost use Rattle.row.specs.Window.{windowOf, blocks};
 ghost use Rattle.row.specs.Blocks.{blockMean};
 ghost use Rattle.classes.specs.declared.class.BlockClass.the-variants.{Gap};
 ghost use Rattle.measure.specs.Inner.{classIn};
-ghost use Rattle.measure.specs.Powers.{power};
+ghost use Rattle.measure.specs.Powers.{blockPower};
 ghost use Rattle.measure.specs.Pairs.{above, strong, pairBlocks};
 ghost use Rattle.measure.specs.Offset.{powerAt, strongest, offsetFrom};
 ghost use Rattle.measure.specs.Evidence.{meanAt};
@@ -49,7 +49,7 @@ fn paired_power(
     requires { ⌜ now sine ≡ sineTable ⌝ }
     requires { ⌜ nb ≡ blocks (now iq) len ⌝ }
     requires { ⌜ 3 * nb ≤ length (now work) ⌝ }
-    ensures { λ r. ⌜ r ≡ sumOver (power (blockMean (now (iq .entry)) cyc len)) minus-zero
+    ensures { λ r. ⌜ r ≡ sumOver (blockPower (blockMean (now (iq .entry)) cyc len)) minus-zero
         (pairBlocks (above (classIn (now (work .entry)) (2 * nb) Gap) (zAt (now (work .entry))) level) nb) ⌝ }
 {
     let mut sum = -0.0;

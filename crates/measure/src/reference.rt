@@ -19,7 +19,7 @@ ghost use Rattle.row.specs.Blocks.{blockMean};
 ghost use Rattle.classes.specs.declared.class.BlockClass.the-variants.{Gap, Interior};
 ghost use Rattle.complex.specs.Rows.{zAt};
 ghost use Rattle.measure.specs.Inner.{classIn};
-ghost use Rattle.measure.specs.Powers.{power};
+ghost use Rattle.measure.specs.Powers.{blockPower};
 ghost use Rattle.measure.specs.Reference.{orZero, medianOf, sideOf, referenceBy};
 ghost use Rattle.measure.specs.Evidence.{meanAt};
 
@@ -50,7 +50,7 @@ fn gap_powers(
     requires { ⌜ 3 * nb ≤ out ⌝ }
     requires { ⌜ out + nb ≤ length (now work) ⌝ }
     ensures { λ r. ⌜ (r ≡ countTo (classIn (now (work .entry)) (2 * nb) Gap) nb)
-        × (now (work .exit) ≡ keep (now (work .entry)) out (classIn (now (work .entry)) (2 * nb) Gap) (power (blockMean (now (iq .entry)) cyc len)) nb) ⌝ }
+        × (now (work .exit) ≡ keep (now (work .entry)) out (classIn (now (work .entry)) (2 * nb) Gap) (blockPower (blockMean (now (iq .entry)) cyc len)) nb) ⌝ }
 {
     let mut n: usize = 0;
     for b in 0..nb {

@@ -13,7 +13,7 @@ use Rattle.row.specs.Blocks.{blockMean}
 use Rattle.row.proofs.Means.{block-fits}
 use Rattle.classes.specs.declared.class.BlockClass.the-variants.{Gap}
 use Rattle.measure.specs.Inner.{classIn}
-use Rattle.measure.specs.Powers.{power}
+use Rattle.measure.specs.Powers.{blockPower}
 use Rattle.measure.specs.Pairs.{above, inPair}
 use Rattle.measure.proofs.Offsets.{over-none, over-yes, over-no, over-done}
 use Rattle.measure.proofs.offset.paired_power.Statement.{statement}
@@ -22,7 +22,7 @@ use Rattle.measure.proofs.offset.paired_power.Tie as tie
 abbrev Inv-loop : tie.InvT-loop
 Inv-loop iq cyc len work nb level sine sum₀ b₀ sum b =
     (b ≤ nb)
-    × (sum ≡ sumOver (power (blockMean iq cyc len)) minus-zero (picked (inPair (above (classIn work (2 * nb) Gap) (zAt work) level) nb) (λ k. k) b))
+    × (sum ≡ sumOver (blockPower (blockMean iq cyc len)) minus-zero (picked (inPair (above (classIn work (2 * nb) Gap) (zAt work) level) nb) (λ k. k) b))
 
 abbrev μ-loop : tie.MeasureT-loop
 μ-loop iq cyc len work nb level sine sum₀ b₀ sum b = nb - b

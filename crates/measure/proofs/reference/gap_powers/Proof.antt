@@ -12,7 +12,7 @@ use Rattle.row.proofs.Means.{block-fits}
 use Rattle.classes.specs.declared.class.BlockClass.the-variants.{Gap}
 use Rattle.complex.specs.Value.{cNormSqr}
 use Rattle.measure.specs.Inner.{classIn}
-use Rattle.measure.specs.Powers.{power}
+use Rattle.measure.specs.Powers.{blockPower}
 use Rattle.measure.proofs.References.{kept-yes, kept-no, kept-done}
 use Rattle.measure.proofs.reference.gap_powers.Statement.{statement}
 use Rattle.measure.proofs.reference.gap_powers.Tie as tie
@@ -20,7 +20,7 @@ use Rattle.measure.proofs.reference.gap_powers.Tie as tie
 abbrev Inv-loop : tie.InvT-loop
 Inv-loop iq cyc len work₀ nb out sine n₀ b₀ work n b =
     (b ≤ nb) × (n ≤ b) × (length work ≡ length work₀) × (n ≡ countTo (classIn work₀ (2 * nb) Gap) b)
-    × (work ≡ keep work₀ out (classIn work₀ (2 * nb) Gap) (power (blockMean iq cyc len)) b)
+    × (work ≡ keep work₀ out (classIn work₀ (2 * nb) Gap) (blockPower (blockMean iq cyc len)) b)
 
 abbrev μ-loop : tie.MeasureT-loop
 μ-loop iq cyc len work₀ nb out sine n₀ b₀ work n b = nb - b
