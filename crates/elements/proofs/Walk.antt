@@ -13,7 +13,7 @@ use Rattle.elements.specs.declared.element.KeyedElement.{KeyedElement}
 use Rattle.elements.specs.declared.keying.Rising.{Rising}
 use Rattle.elements.specs.declared.keying.Rising.the-variants.{At, Nothing}
 use Rattle.elements.specs.declared.keying.Found.{Found}
-use Rattle.elements.specs.Keying.{upward, downward, KeyDown, keyDown, pending, ended, keyDowns, elementOf, isLong, long, airtimeOf, none, listedOf, shortOf, counts, elementsOf, foundTo, elementsTo}
+use Rattle.elements.specs.Keying.{upward, downward, KeyDown, keyDown, pending, ended, keyDowns, elementOf, isLong, long, airtimeOf, noKeyDowns, listedOf, shortOf, counts, elementsOf, foundTo, elementsTo}
 use Rattle.elements.specs.Element.{ELEMENT, elementFrom}
 use Rattle.elements.specs.Inner.{putElementFrom, putElement, storedBy, stored, storedFrom, foundPlus, oneListed, oneShort, Room, Ending}
 use Rattle.lists.specs.Those.{those}
@@ -123,7 +123,7 @@ module _ (row : ℕ → Float) (thr : Float) (step : ℕ) (fs : Float) where
     unfolding elementsOf listedOf those
     elements-short h = rw h
 
-  pub counts-none : counts row thr step fs [] ≡ none
+  pub counts-none : counts row thr step fs [] ≡ noKeyDowns
   unfolding counts listedOf shortOf those airtimeOf
   counts-none = refl
 
@@ -183,7 +183,7 @@ module _ (row : ℕ → Float) (thr : Float) (step : ℕ) (fs : Float) where
     pub written : cur ≡ stored l (elementsTo row thr step fs j)
 
   module _ (l : List Float) where
-    pub walked-none : Walked l (1 - 1) Nothing none l
+    pub walked-none : Walked l (1 - 1) Nothing noKeyDowns l
     unfolding pending keyDowns foundTo elementsTo storedBy
     walked-none = record { waiting = refl; counted = sym counts-none; written = rw elements-none }
 

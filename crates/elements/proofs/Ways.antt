@@ -22,7 +22,7 @@ use Rattle.rank.specs.declared.Percentile.{Percentile}
 use Rattle.rank.specs.declared.Percentile.the-variants.{Value, Nothing}
 use Rattle.rank.specs.Percentile.{percentileOf}
 use Rattle.elements.specs.declared.keying.Found.{Found}
-use Rattle.elements.specs.Keying.{none, foundTo, elementsTo}
+use Rattle.elements.specs.Keying.{noKeyDowns, foundTo, elementsTo}
 use Rattle.elements.specs.Element.{ELEMENT, elementsIn, handed, handedElements}
 use Rattle.elements.specs.Inner.{stored}
 use Rattle.elements.specs.Find.{Absent, halfOf, thresholdOf, foundOf, elementsFound}
@@ -75,11 +75,11 @@ module _ (iq : List Float) (fs carrier : Float) where
       (e, rw (e, f, listed) (elements-handed l (elementsFound iq fs carrier) (omega arith)))
 
   -- ---- no threshold: nothing is found
-  without : (l : List Float) → thresholdOf iq fs carrier ≡ Absent → answered none l l
+  without : (l : List Float) → thresholdOf iq fs carrier ≡ Absent → answered noKeyDowns l l
   unfolding foundOf elementsFound elementsIn handedElements firsts
   without l e = (rw e, rw e)
 
-  pub way-short : (l : List Float) (step : ℕ) → step ≡ stepOf fs → length iq / 2 < 8 * step → answered none l l
+  pub way-short : (l : List Float) (step : ℕ) → step ≡ stepOf fs → length iq / 2 < 8 * step → answered noKeyDowns l l
   unfolding thresholdOf firsts percentileOf
   way-short l step e h =
       let few : samples iq < windowOf fs = rw (← e) h in
@@ -90,10 +90,10 @@ module _ (iq : List Float) (fs carrier : Float) where
     unfolding thresholdOf
     threshold-is = rw (← is, edge-percentile-bits, ← asked)
 
-    pub way-none : (l : List Float) → p ≡ Nothing → answered none l l
+    pub way-none : (l : List Float) → p ≡ Nothing → answered noKeyDowns l l
     way-none l e = without l (rw (threshold-is, e))
 
-    pub way-low : (l : List Float) (top : Float) → p ≡ Value top → lt plus-zero (half ⊗ top) ≡ false → answered none l l
+    pub way-low : (l : List Float) (top : Float) → p ≡ Value top → lt plus-zero (half ⊗ top) ≡ false → answered noKeyDowns l l
     way-low l top e low = without l (rw (threshold-is, e, low))
 
     pub way-found : (l out : List Float) (top : Float) (step : ℕ) (r : Found) → ELEMENT * (stepBlocks iq fs / 2) ≤ length l → step ≡ stepOf fs → 1 ≤ length v → p ≡ Value top → lt plus-zero (half ⊗ top) ≡ true

@@ -13,7 +13,7 @@ use Rattle.rank.specs.declared.Percentile.the-variants.{Value, Nothing}
 use Rattle.rank.specs.Percentile.{percentileOf}
 use Rattle.elements.specs.declared.element.KeyedElement.{KeyedElement}
 use Rattle.elements.specs.declared.keying.Found.{Found}
-use Rattle.elements.specs.Keying.{KeyDown, keyDowns, foundTo, elementsTo, none}
+use Rattle.elements.specs.Keying.{KeyDown, keyDowns, foundTo, elementsTo, noKeyDowns}
 
 -- the threshold of a row, if it has one
 pub data Threshold : Type 0 where
@@ -36,7 +36,7 @@ module _ (row : ℕ → Float) (last step : ℕ) (fs : Float) where
 
   abbrev pub foundAt : Threshold → Found
   foundAt (At thr) = foundTo row thr step fs last
-  foundAt Absent = none
+  foundAt Absent = noKeyDowns
 
   abbrev pub elementsAt : Threshold → List KeyedElement
   elementsAt (At thr) = elementsTo row thr step fs last

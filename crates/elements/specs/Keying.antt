@@ -106,8 +106,8 @@ airtimeOf step [] = 0
 airtimeOf step (k ∷ ks) = (k .down - k .up) * step + airtimeOf step ks
 
 -- nothing found
-abbrev pub none : Found
-none = record { «key_downs» = 0; listed = 0; short = 0; airtime = 0 }
+abbrev pub noKeyDowns : Found
+noKeyDowns = record { «key_downs» = 0; listed = 0; short = 0; airtime = 0 }
 
 module _ (row : ℕ → Float) (thr : Float) (step : ℕ) (fs : Float) where
   -- listed and short

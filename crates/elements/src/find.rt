@@ -37,7 +37,7 @@ pub fn find_elements(
     let step = edge_step(fs);
     let n = iq.len() / 2;
     if n < 8 * step {
-        return Found::NONE;
+        return Found::NO_KEY_DOWNS;
     }
     let b = n / step;
     let from = 2 * b;
@@ -45,12 +45,12 @@ pub fn find_elements(
     amplitudes(iq, carrier / fs, step, work, sine);
     let row = &work[from..to];
     let Percentile::Value(top) = percentile(row, EDGE_PERCENTILE) else {
-        return Found::NONE;
+        return Found::NO_KEY_DOWNS;
     };
     let thr = 0.5 * top;
     if thr > 0.0 {
         scan(row, thr, step, fs, elements)
     } else {
-        Found::NONE
+        Found::NO_KEY_DOWNS
     }
 }

@@ -28,7 +28,7 @@ pub struct Found {
 }
 
 impl Found {
-    pub const NONE: Found = Found {
+    pub const NO_KEY_DOWNS: Found = Found {
         key_downs: 0,
         listed: 0,
         short: 0,
@@ -173,7 +173,7 @@ pub fn scan(row: &[f64], thr: f64, step: usize, fs: f64, elements: &mut [f64]) -
 {
     let n = row.len();
     let mut rising = Rising::Nothing;
-    let mut found = Found::NONE;
+    let mut found = Found::NO_KEY_DOWNS;
     for i in 1..n {
         if rises(row, thr, i) {
             rising = Rising::At(i);

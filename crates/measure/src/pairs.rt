@@ -31,7 +31,7 @@ pub struct Pairs {
 }
 
 impl Pairs {
-    pub const NONE: Pairs = Pairs {
+    pub const NO_PAIRS: Pairs = Pairs {
         count: 0,
         sum: Complex::ZERO,
         size: 0.0,
@@ -149,7 +149,7 @@ pub fn sum_pairs(work: &[f64], nb: usize, reference: f64) -> Pairs
     ensures { λ r. ⌜ r ≡ pairsOf (strong (classIn (now (work .entry)) (2 * nb) Gap) (zAt (now (work .entry))) reference) (zAt (now (work .entry))) nb ⌝ }
 {
     let level = PAIR_FACTOR * reference;
-    let mut found = Pairs::NONE;
+    let mut found = Pairs::NO_PAIRS;
     for b in 0..nb {
         if pair_at(work, nb, level, b) {
             let p = lagged(work, b);
