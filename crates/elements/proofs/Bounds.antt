@@ -27,7 +27,7 @@ use Rattle.lists.proofs.Firsts.{length-firsts, getD-firsts}
 use Rattle.row.proofs.Bounds.{Singles, row-amount}
 use Rattle.rank.specs.declared.Percentile.{Percentile}
 use Rattle.rank.specs.declared.Percentile.the-variants.{Value, Nothing}
-use Rattle.rank.specs.Percentile.{percentileOf}
+use Rattle.rank.specs.Select.{percentileOf}
 use Rattle.rank.proofs.Sorted.{percentile-none}
 use Rattle.rank.proofs.Among.{percentile-keeps}
 use Rattle.constants.specs.Constants.{EDGE_PERCENTILE}

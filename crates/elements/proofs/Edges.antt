@@ -22,7 +22,7 @@ use Rattle.lists.proofs.Firsts.{length-firsts, getD-firsts, firsts-cong}
 use Rattle.rank.specs.declared.Percentile.the-variants.{Value}
 use Rattle.rank.specs.Order.{minusZero, precedes, before, upTo}
 use Rattle.lists.specs.Count.{countTo}
-use Rattle.rank.specs.Percentile.{rankOf, percentileOf}
+use Rattle.rank.specs.Select.{rankOf, percentileOf}
 use Rattle.lists.proofs.Count.{count-cong}
 use Rattle.rank.proofs.Sorted.{held, rank-lt, percentile-counts}
 use Rattle.elements.specs.declared.element.KeyedElement.{KeyedElement}

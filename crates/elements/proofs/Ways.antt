@@ -20,7 +20,7 @@ use Rattle.lists.proofs.Firsts.{length-firsts, getD-firsts}
 use Rattle.row.proofs.Rows.{row-part, row-is, row-none, row-some}
 use Rattle.rank.specs.declared.Percentile.{Percentile}
 use Rattle.rank.specs.declared.Percentile.the-variants.{Value, Nothing}
-use Rattle.rank.specs.Percentile.{percentileOf}
+use Rattle.rank.specs.Select.{percentileOf}
 use Rattle.elements.specs.declared.keying.Found.{Found}
 use Rattle.elements.specs.Keying.{noKeyDowns, foundTo, elementsTo}
 use Rattle.elements.specs.Element.{ELEMENT, elementsIn, handed, handedElements}

@@ -10,7 +10,7 @@ use Rattle.row.specs.Window.{stepOf}
 use Rattle.row.specs.Envelope.{rowOf, rowLength}
 use Rattle.rank.specs.declared.Percentile.{Percentile}
 use Rattle.rank.specs.declared.Percentile.the-variants.{Value, Nothing}
-use Rattle.rank.specs.Percentile.{percentileOf}
+use Rattle.rank.specs.Select.{percentileOf}
 use Rattle.elements.specs.declared.element.KeyedElement.{KeyedElement}
 use Rattle.elements.specs.declared.keying.Found.{Found}
 use Rattle.elements.specs.Keying.{KeyDown, keyDowns, foundTo, elementsTo, noKeyDowns}

@@ -27,7 +27,7 @@ use Rattle.row.specs.Blocks.{blockMean}
 use Rattle.row.proofs.Steps.{step-low, step-high}
 use Rattle.row.proofs.Bounds.{Singles, block-bounded}
 use Rattle.rank.specs.declared.Percentile.the-variants.{Value}
-use Rattle.rank.specs.Percentile.{percentileOf}
+use Rattle.rank.specs.Select.{percentileOf}
 use Rattle.rank.proofs.Among.{percentile-keeps}
 use Rattle.fits.specs.declared.fit.ElementFit.{ElementFit}
 use Rattle.fits.specs.List.{fitAt, fitsIn}

@@ -15,7 +15,7 @@ use Rattle.constants.specs.Constants.{MIN_POSITIVE, CLEAN_EDGE_OVER_NEIGHBOUR_D
 use Rattle.complex.specs.declared.value.Complex.{Complex}
 use Rattle.rank.specs.declared.Percentile.{Percentile}
 use Rattle.rank.specs.declared.Percentile.the-variants.{Value, Nothing}
-use Rattle.rank.specs.Percentile.{percentileOf}
+use Rattle.rank.specs.Select.{percentileOf}
 use Rattle.fits.specs.declared.fit.ElementFit.{ElementFit}
 use Rattle.classes.specs.declared.class.BlockClass.{BlockClass}
 use Rattle.classes.specs.declared.class.BlockClass.the-variants.{Edge, Interior, Gap}

@@ -16,7 +16,7 @@ use Rattle.complex.specs.Rows.{zAt}
 use Rattle.row.specs.Samples.{Iq}
 use Rattle.row.specs.Window.{Rate, stepOf, windowOf, samples, blocks}
 use Rattle.row.proofs.Steps.{step-low, step-high}
-use Rattle.rank.specs.Percentile.{percentileOf}
+use Rattle.rank.specs.Select.{percentileOf}
 use Rattle.fits.specs.declared.fit.ElementFit.{ElementFit}
 use Rattle.classes.specs.declared.class.BlockClass.{BlockClass}
 use Rattle.classes.specs.declared.class.BlockClass.the-variants.{Edge, Interior, Gap}

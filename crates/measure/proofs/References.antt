@@ -25,7 +25,7 @@ use Rattle.classes.specs.declared.class.BlockClass.the-variants.{Gap, Interior}
 use Rattle.classes.specs.Class.{codeOf}
 use Rattle.rank.specs.declared.Percentile.{Percentile}
 use Rattle.rank.specs.declared.Percentile.the-variants.{Value, Nothing}
-use Rattle.rank.specs.Percentile.{percentileOf}
+use Rattle.rank.specs.Select.{percentileOf}
 use Rattle.measure.specs.Inner.{hasCode, classIn, powerIn, powersIn}
 use Rattle.measure.specs.Powers.{blockPower}
 use Rattle.measure.specs.Reference.{orZero, medianOf, sideOf, referenceFrom, referenceBy}

@@ -12,7 +12,7 @@ use Rattle.constants.specs.Constants.{REFERENCE_OFFSET_HZ, MIN_POSITIVE}
 use Rattle.complex.specs.declared.value.Complex.{Complex}
 use Rattle.rank.specs.declared.Percentile.{Percentile}
 use Rattle.rank.specs.declared.Percentile.the-variants.{Value, Nothing}
-use Rattle.rank.specs.Percentile.{percentileOf}
+use Rattle.rank.specs.Select.{percentileOf}
 use Rattle.measure.specs.Powers.{blockPower}
 
 -- `unwrap_or(0.0)`

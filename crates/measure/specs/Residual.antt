@@ -14,7 +14,7 @@ use Rattle.row.specs.Window.{windowOf, samples, blocks}
 use Rattle.row.specs.Blocks.{blockMean}
 use Rattle.rank.specs.declared.Percentile.{Percentile}
 use Rattle.rank.specs.declared.Percentile.the-variants.{Value, Nothing}
-use Rattle.rank.specs.Percentile.{percentileOf}
+use Rattle.rank.specs.Select.{percentileOf}
 use Rattle.elements.specs.declared.element.KeyedElement.{KeyedElement}
 use Rattle.fits.specs.declared.fit.ElementFit.{ElementFit}
 use Rattle.classes.specs.declared.class.BlockClass.{BlockClass}

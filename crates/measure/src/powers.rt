@@ -7,7 +7,7 @@ ghost use Prim.Native.Nat.{_+_, _*_, _≤_};
 ghost use lib.ListN.{length, take};
 ghost use Rattle.lists.specs.Count.{countTo};
 ghost use Rattle.lists.specs.Those.{keep};
-ghost use Rattle.rank.specs.Percentile.{percentileOf};
+ghost use Rattle.rank.specs.Select.{percentileOf};
 ghost use Rattle.measure.specs.Inner.{classIn, powerIn, powersIn};
 
 // Rust: the `push`es of a class in residual_check, and `interior` in second_carrier_evidence. The nb means stand from

@@ -8,7 +8,7 @@ use lib.ListN.{length, getD}
 use native.Mathlib.Nat.{zero-lt-suc, lt-of-lt-of-le, le-of-eq}
 use lib.Ieee.{Float, nan}
 use Rattle.rank.specs.Order.{sorted}
-use Rattle.rank.specs.Percentile.{rankOf, percentileOf}
+use Rattle.rank.specs.Select.{rankOf, percentileOf}
 use Rattle.rank.specs.declared.Percentile.the-variants.{Value}
 use Rattle.rank.proofs.Sorted.{Every, every-at, sorted-every, sorted-length, rank-lt}
 

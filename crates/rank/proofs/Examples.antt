@@ -6,7 +6,7 @@ use mathlib.Core.Bool.{true, false}
 use Rattle.float.specs.Ops.{half, plus-zero, minus-zero, one}
 use Rattle.float.specs.Whole.{roundOf}
 use Rattle.rank.specs.Order.{sorted}
-use Rattle.rank.specs.Percentile.{rankOf}
+use Rattle.rank.specs.Select.{rankOf}
 
 -- Rank at p = 0.5: 2 for four values, 2 for five
 pub rank-of-four : rankOf 4 half ≡ 2

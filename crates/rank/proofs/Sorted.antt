@@ -15,7 +15,7 @@ use lib.ListN.{length, getD}
 use lib.Ieee.{Float, nan, binary64, fits}
 use Rattle.rank.specs.Order.{precedes, insert, sorted, before, upTo}
 use Rattle.lists.specs.Count.{countTo}
-use Rattle.rank.specs.Percentile.{rankOf, percentileOf}
+use Rattle.rank.specs.Select.{rankOf, percentileOf}
 use Rattle.rank.specs.Inner.{ordinalOf, ordinalAt, below, RankIn, Selected, Ordinal, valueOf}
 use Rattle.rank.specs.declared.Percentile.the-variants.{Value, Nothing}
 use Rattle.rank.proofs.Ordinals.{precedes-ordinal, ordinal-injective, value-ordinal, is-ordinal}

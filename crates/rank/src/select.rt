@@ -5,7 +5,7 @@ use crate::Percentile;
 ghost use mathlib.Core.Path.{_≡_};
 ghost use Prim.Native.Nat.{_+_, _*_, _%_, _^_, _<_, _≤_};
 ghost use lib.ListN.{length};
-ghost use Rattle.rank.specs.Percentile.{rankOf, percentileOf};
+ghost use Rattle.rank.specs.Select.{rankOf, percentileOf};
 ghost use Rattle.rank.specs.Inner.{
   ordinalOf,
   valueOf,

@@ -5,7 +5,7 @@ use native.Mathlib.Omega.{arith}
 use lib.Ieee.{toUnsigned}
 use Rattle.float.specs.Ops.{_⊗_, of}
 use Rattle.float.specs.Whole.{roundOf}
-use Rattle.rank.specs.Percentile.{rankOf}
+use Rattle.rank.specs.Select.{rankOf}
 use borrow.Author.Needs.{needs}
 use Rattle.rank.proofs.select.rank.Statement.{statement}
 use Rattle.rank.proofs.select.rank.Tie as tie
