@@ -55,11 +55,11 @@ use Rattle.cancel.proofs.RunAccepted.{run-done}
 module _ (buf : List Float) (fs hint : Float) (elements fits work : List Float) (f : Figures) (after left fits-left scratch : List Float)
     (promise : runOutcome (Done f) after left fits-left scratch ≡ runRule buf fs hint elements fits work) where
   -- the elements and the fits handed out
-  abbrev listed : List KeyedElement
-  listed = elementsIn left (f .estimate .found .listed)
+  abbrev elements-out : List KeyedElement
+  elements-out = elementsIn left (f .estimate .found .listed)
 
-  abbrev fitted : List ElementFit
-  fitted = fitsIn fits-left (f .estimate .fitted)
+  abbrev fits-out : List ElementFit
+  fits-out = fitsIn fits-left (f .estimate .fitted)
 
   figures-are : f ≡ runFigures buf fs hint
   figures-are = run-done buf fs hint elements fits work _ promise .1
@@ -67,11 +67,11 @@ module _ (buf : List Float) (fs hint : Float) (elements fits work : List Float) 
   buffer-is : after ≡ runBuffer buf fs hint
   buffer-is = run-done buf fs hint elements fits work _ promise .2
 
-  listed-are : listed ≡ strongElements buf fs hint
-  listed-are = elements-read left elements _ _ (run-done buf fs hint elements fits work _ promise .3)
+  elements-out-are : elements-out ≡ strongElements buf fs hint
+  elements-out-are = elements-read left elements _ _ (run-done buf fs hint elements fits work _ promise .3)
 
-  fitted-are : fitted ≡ strongFits buf fs hint
-  fitted-are = fits-read fits-left fits _ _ (run-done buf fs hint elements fits work _ promise .4)
+  fits-out-are : fits-out ≡ strongFits buf fs hint
+  fits-out-are = fits-read fits-left fits _ _ (run-done buf fs hint elements fits work _ promise .4)
 
   estimate-is : f .estimate ≡ strongEstimate buf fs hint
   unfolding runFigures
@@ -96,21 +96,21 @@ module _ (buf : List Float) (fs hint : Float) (elements fits work : List Float) 
 
   -- the fits handed out are, in order, of those listed elements that are not skipped, and each is the fit of its
   -- element
-  pub fits-of-listed : map (λ g. g .element) fitted ≡ those (λ e. not (isSkipped (fitOf buf fs (f .estimate .«carrier_hz» ⊘ fs) e))) listed
+  pub fits-of-listed : map (λ g. g .element) fits-out ≡ those (λ e. not (isSkipped (fitOf buf fs (f .estimate .«carrier_hz» ⊘ fs) e))) elements-out
   fits-of-listed =
       let told = run-done buf fs hint elements fits work _ promise in
       rw at-refined (handed-strong-fits buf fs hint left elements _ (told .3) fits-left fits _ (told .4))
 
-  pub fits-each : (g : ElementFit) → List·Memᴰ g fitted → fitOf buf fs (f .estimate .«carrier_hz» ⊘ fs) (g .element) ≡ Fitted g
-  fits-each g m = rw at-refined (strong-fit-is buf fs hint g (rw fitted-are at m))
+  pub fits-each : (g : ElementFit) → List·Memᴰ g fits-out → fitOf buf fs (f .estimate .«carrier_hz» ⊘ fs) (g .element) ≡ Fitted g
+  fits-each g m = rw at-refined (strong-fit-is buf fs hint g (rw fits-out-are at m))
 
-  pub fitted-counted : f .estimate .fitted ≡ length fitted
+  pub fitted-counted : f .estimate .fitted ≡ length fits-out
   unfolding fitsIn
   fitted-counted = sym (length-firsts (fitAt fits-left) (f .estimate .fitted))
 
-  pub skipped-is : f .skipped ≡ length (skippedOf buf fs (f .estimate .«carrier_hz») listed)
+  pub skipped-is : f .skipped ≡ length (skippedOf buf fs (f .estimate .«carrier_hz») elements-out)
   unfolding runFigures
-  skipped-is = rw (listed-are, at-refined) (ap (λ (g : Figures). g .skipped) figures-are)
+  skipped-is = rw (elements-out-are, at-refined) (ap (λ (g : Figures). g .skipped) figures-are)
 
   pub samples-is : f .samples ≡ samples buf
   unfolding runFigures
@@ -138,17 +138,17 @@ module _ (buf : List Float) (fs hint : Float) (elements fits work : List Float) 
   unfolding runFigures
   blocks-are = ap (λ (g : Figures). g .blocks) figures-are
 
-  pub classes-are : f .classes ≡ countsOf (classOf fs (samples buf) fitted listed) (f .blocks)
+  pub classes-are : f .classes ≡ countsOf (classOf fs (samples buf) fits-out elements-out) (f .blocks)
   unfolding runFigures
-  classes-are = rw (fitted-are, listed-are, blocks-are) (ap (λ (g : Figures). g .classes) figures-are)
+  classes-are = rw (fits-out-are, elements-out-are, blocks-are) (ap (λ (g : Figures). g .classes) figures-are)
 
-  pub residual-is : f .residual ≡ residualCheckOf buf fs (f .estimate .«carrier_hz») fitted listed
+  pub residual-is : f .residual ≡ residualCheckOf buf fs (f .estimate .«carrier_hz») fits-out elements-out
   unfolding runFigures
-  residual-is = rw (fitted-are, listed-are, at-refined) (ap (λ (g : Figures). g .residual) figures-are)
+  residual-is = rw (fits-out-are, elements-out-are, at-refined) (ap (λ (g : Figures). g .residual) figures-are)
 
-  pub evidence-is : f .evidence ≡ evidenceCheckOf buf fs (f .estimate .«carrier_hz») fitted listed
+  pub evidence-is : f .evidence ≡ evidenceCheckOf buf fs (f .estimate .«carrier_hz») fits-out elements-out
   unfolding runFigures
-  evidence-is = rw (fitted-are, listed-are, at-refined) (ap (λ (g : Figures). g .evidence) figures-are)
+  evidence-is = rw (fits-out-are, elements-out-are, at-refined) (ap (λ (g : Figures). g .evidence) figures-are)
 
   pub hypothesis-is : f .hypothesis ≡ hypothesisOf (f .evidence)
   unfolding runFigures
@@ -156,13 +156,13 @@ module _ (buf : List Float) (fs hint : Float) (elements fits work : List Float) 
 
   -- ---- The list holds the key-downs whose computed length is at least RISE_S × fs, each once, in order, nothing else.
   pub list-exactly : Singles buf → (thr : Float) → thresholdOf buf fs (f .estimate .«carrier_hz») ≡ At thr
-      → LongKeyDowns (rowOf buf fs (f .estimate .«carrier_hz»)) thr (rowLength buf fs - 1) (stepOf fs) fs listed
+      → LongKeyDowns (rowOf buf fs (f .estimate .«carrier_hz»)) thr (rowLength buf fs - 1) (stepOf fs) fs elements-out
   list-exactly s thr t =
       let told = run-done buf fs hint elements fits work _ promise in
       let known = estimate-accepted buf fs hint _ _ _ (told .0) in
       rw at-refined (handed-strong buf fs hint left elements _ (told .3) s (known .iq-ok) thr (rw at-refined at t))
 
-  pub list-nothing : thresholdOf buf fs (f .estimate .«carrier_hz») ≡ Absent → listed ≡ []
+  pub list-nothing : thresholdOf buf fs (f .estimate .«carrier_hz») ≡ Absent → elements-out ≡ []
   list-nothing t = handed-strong-nothing buf fs hint left elements _ (run-done buf fs hint elements fits work _ promise .3) (rw at-refined at t)
 
   -- ---- The word: taken exactly when all four hold.
@@ -180,16 +180,16 @@ module _ (buf : List Float) (fs hint : Float) (elements fits work : List Float) 
   kept-unchanged k = rw (buffer-is, is-taken, k)
 
   -- One that says taken leaves what `subtract` leaves, of the fits handed out ..
-  pub taken-leaves : f .taken ≡ true → after ≡ subtracted fs (f .estimate .«carrier_hz» ⊘ fs) buf fitted
+  pub taken-leaves : f .taken ≡ true → after ≡ subtracted fs (f .estimate .«carrier_hz» ⊘ fs) buf fits-out
   unfolding runBuffer
-  taken-leaves k = rw (fitted-are, at-refined, buffer-is, is-taken, k)
+  taken-leaves k = rw (fits-out-are, at-refined, buffer-is, is-taken, k)
 
   -- .. and changes none outside the fitted spans.
-  pub outside-unchanged : (k : ℕ) → ((g : ElementFit) → List·Memᴰ g fitted → covers (spanOf fs (samples buf) g) k ≡ false) → zAt after k ≡ zAt buf k
+  pub outside-unchanged : (k : ℕ) → ((g : ElementFit) → List·Memᴰ g fits-out → covers (spanOf fs (samples buf) g) k ≡ false) → zAt after k ≡ zAt buf k
   outside-unchanged k h = go (f .taken) refl
     where
       go : (t : Bool) → f .taken ≡ t → zAt after k ≡ zAt buf k
-      go true e = ap (λ l. zAt l k) (taken-leaves e) ∙ outside-spans fs (f .estimate .«carrier_hz» ⊘ fs) buf fitted k h
+      go true e = ap (λ l. zAt l k) (taken-leaves e) ∙ outside-spans fs (f .estimate .«carrier_hz» ⊘ fs) buf fits-out k h
       go false e = ap (λ l. zAt l k) (kept-unchanged e)
 
 -- ---- Two accepted runs alike in length, rate, final estimate in the Rust's own fields, and every sample of the edge,
