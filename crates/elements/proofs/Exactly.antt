@@ -17,14 +17,14 @@ use Rattle.elements.proofs.Records.{elements-read}
 
 module _ (iq : List Float) (fs carrier : Float) where
   -- the listed key-downs
-  abbrev listed : Float → List KeyDown
-  listed thr = listedOf (rowOf iq fs carrier) thr (stepOf fs) fs (keyDownsOf iq fs carrier)
+  abbrev key-downs-listed : Float → List KeyDown
+  key-downs-listed thr = listedOf (rowOf iq fs carrier) thr (stepOf fs) fs (keyDownsOf iq fs carrier)
 
-  elements-listed : (thr : Float) → thresholdOf iq fs carrier ≡ At thr → elementsFound iq fs carrier ≡ map (elementOf (rowOf iq fs carrier) thr (stepOf fs)) (listed thr)
+  elements-listed : (thr : Float) → thresholdOf iq fs carrier ≡ At thr → elementsFound iq fs carrier ≡ map (elementOf (rowOf iq fs carrier) thr (stepOf fs)) (key-downs-listed thr)
   unfolding keyDownsOf elementsFound elementsTo elementsOf
   elements-listed thr t = rw t
 
-  listed-in-order : (thr : Float) → thresholdOf iq fs carrier ≡ At thr → InOrder (listed thr)
+  listed-in-order : (thr : Float) → thresholdOf iq fs carrier ≡ At thr → InOrder (key-downs-listed thr)
   unfolding keyDownsOf listedOf
   listed-in-order thr t =
       let row = rowOf iq fs carrier in
@@ -38,7 +38,7 @@ module _ (iq : List Float) (fs carrier : Float) where
       let is = listed-is (rowOf iq fs carrier) thr (stepOf fs) fs (keyDownsOf iq fs carrier) in
       let key = recorded-is iq fs carrier s q thr t in
       record {
-        long-ones = listed thr;
+        long-ones = key-downs-listed thr;
         are = elements-listed thr t;
         in-order = listed-in-order thr t;
         exactly = λ k. (λ m. let h = is k .0 m in (key k .0 (h .0), h .1), λ h. is k .1 (key k .1 (h .0), h .1));
