@@ -2,4 +2,5 @@
 pub mod Blocks
 pub mod Calls
 pub mod Functions
+pub mod Hypothesis
 pub mod Measures

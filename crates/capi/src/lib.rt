@@ -2,4 +2,5 @@
 pub mod blocks;
 pub mod calls;
 pub mod functions;
+pub mod hypothesis;
 pub mod measures;
