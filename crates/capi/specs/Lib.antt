@@ -4,3 +4,4 @@ pub mod Calls
 pub mod Functions
 pub mod Hypothesis
 pub mod Measures
+pub mod Removal

@@ -4,3 +4,4 @@ pub mod calls;
 pub mod functions;
 pub mod hypothesis;
 pub mod measures;
+pub mod removal;
