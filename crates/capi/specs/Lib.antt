@@ -5,3 +5,4 @@ pub mod Functions
 pub mod Hypothesis
 pub mod Measures
 pub mod Removal
+pub mod Running

@@ -5,3 +5,4 @@ pub mod functions;
 pub mod hypothesis;
 pub mod measures;
 pub mod removal;
+pub mod running;
