@@ -8,7 +8,6 @@
 -- ByTimes   the class depends on the times alone: `class-by-times`, `class-by-places`
 -- Order     what the order of painting comes to: `rim-wins`; `last-start-wins`, `last-end-wins`, `last-inside-wins`;
 --           `near-no-gap`, `found-no-gap`
--- Edges     the edge table's row of classes: `edges`
 -- Painted   a list with one number at the places that pass a test, and the loop that stores it
 -- Turns     members of a list that paint in turn, and the loop over them
 -- Zones     from the ranges that the code computes to near, inside, at an edge, on the rim
@@ -18,7 +17,6 @@ pub mod Classes
 pub mod Counts
 pub mod ByTimes
 pub mod Order
-pub mod Edges
 pub mod Painted
 pub mod Turns
 pub mod Zones

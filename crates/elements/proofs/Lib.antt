@@ -12,8 +12,7 @@
 -- Exactly     what is found and handed out: the long key-downs, each once, in order, and nothing else: `found-exactly`,
 --             `handed-exactly`; without a threshold nothing: `found-nothing`, `handed-nothing`
 -- Ways        the ways out of `find_elements`
--- Ones        recordings of zeros and ones at carrier 0: `length-ones`, `sample-ones`, `derot-ones`, `row-ones`
--- Edges       01's edge table, the rows of elements: `edges`, `step-3000`, `window-3000`, `finds`
+-- Edges       at fs 3,000: `step-3000`, `window-3000`
 pub mod Records
 pub mod Reached
 pub mod Joined
@@ -24,5 +23,4 @@ pub mod Bounds
 pub mod Recording
 pub mod Exactly
 pub mod Ways
-pub mod Ones
 pub mod Edges

@@ -27,7 +27,6 @@
 -- Absence   the offset is absent exactly when there is no pair: `absent-exactly`, `present-exactly`
 -- Pushed    the Rust's loop over `gap_idx.windows(2)`: `rust-products`, `rust-blocks`
 -- ReachEvidence  what the evidence of a recording depends on: `evidence-reach`, `evidence-check-reach`
--- HypothesisEdges  01's table on hypotheses: `two-signals`, `one-signal`, `unresolved`
 pub mod Parts
 pub mod Prepared
 pub mod Gathered
@@ -49,4 +48,3 @@ pub mod Levels
 pub mod Absence
 pub mod ReachEvidence
 pub mod Pushed
-pub mod HypothesisEdges

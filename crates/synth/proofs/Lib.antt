@@ -7,7 +7,6 @@
 -- Removals    the loops of `take_off` and `subtract`; `length-subtracted`, `subtracted-more`
 -- Samples     what `subtract` leaves, sample by sample: `subtracted-at`, `outside-spans`
 -- RustFields  all of it goes by the Rust's own fields of a fit: `span-alike`, `synth-alike`, `subtracted-alike`
--- Edges       the row of 01's edge table that speaks of a span
 -- Laws        what a proof's `search laws` goes by
 pub mod Spans
 pub mod Bounds
@@ -15,5 +14,4 @@ pub mod Parts
 pub mod Removals
 pub mod Samples
 pub mod RustFields
-pub mod Edges
 pub mod Laws

@@ -1,4 +1,5 @@
--- The rows of 01's edge table that speak of fits: fs 3,000, carrier 0, samples 0 or (1, 0). Assumes nothing.
+-- The rows of 01's edge table that speak of fits. Over an interior whose derotated samples are all 1 the sums of the
+-- fit are those of known numbers, and these are computed. Assumes nothing.
 use Prim.Native.Nat.{ℕ, zero, suc, _+_, _-_, _*_, _/_, _^_, _≤_, _<_}
 use native.Mathlib.Omega.{arith}
 use mathlib.Core.Path.{_≡_, refl, ap, _∙_}
@@ -22,24 +23,26 @@ use Rattle.complex.proofs.RowLaws.{cSum-cong}
 use Rattle.row.specs.Window.{samples}
 use Rattle.row.specs.Blocks.{derot, meanFrom}
 use Rattle.elements.specs.declared.element.KeyedElement.{KeyedElement}
-use Rattle.elements.specs.Ones.{isOne, onesOf}
 use Rattle.constants.specs.Constants.{RISE_S, MIN_INTERIOR_S, SLOPE_BLOCK_S}
 use Rattle.lists.specs.Those.{those}
 use Rattle.elements.specs.Find.{elementsFound}
-use Rattle.elements.proofs.Ones.{real, length-ones, derot-ones}
-use Rattle.elements.proofs.Edges.{from-100, cycles-3000, edges as found}
 use Rattle.fits.specs.declared.interior.Interior.the-variants.{Inside, Nothing}
 use Rattle.fits.specs.Interior.{loOf, hiOf, minLen, unfit, interiorOf, slopeBlock}
 use Rattle.fits.specs.declared.fit.ElementFit.{ElementFit}
 use Rattle.fits.specs.declared.fit.Fit.the-variants.{Fitted, Skipped}
 use Rattle.lists.specs.Sums.{fSum}
 use Rattle.fits.specs.Line.{timeOf, lineSlope}
 use Rattle.fits.specs.Slope.{slopeMean, phaseOn, phaseOf, slopeOf}
 use Rattle.fits.specs.Gain.{refSample, hann, tiltOf, gainSum, hannSum}
 use Rattle.fits.specs.Fit.{fitInside, fitWithin, fitOf}
 use Rattle.fits.specs.List.{fitsOf, skippedOf}
 use Rattle.fits.specs.Estimate.{fitsFound}
+use Rattle.float.proofs.Literals.{literals}
 use Rattle.fits.proofs.Slopes.{slope-cong}
+use Rattle.edge_table.specs.Ones.{isOne, onesOf}
+use Rattle.edge_table.specs.Table.{element, unitFit, Fits}
+use Rattle.edge_table.proofs.Ones.{real, length-ones, derot-ones}
+use Rattle.edge_table.proofs.Elements.{cycles-3000, rows as found}
 
 -- ---- over an interior whose derotated samples are all 1
 mean-two : cDiv (cAdd (cAdd cZero (real 1)) (real 1)) (of 2) ≡ real 1
@@ -82,10 +85,6 @@ module _ (iq : List Float) (cyc : Float) (i0 len : ℕ) (unit : (j : ℕ) → j 
   unfolding gainSum
   gain-unit slope ref = cSum-cong _ _ 0 len (λ j h. ap (λ z. cMul z (cPolar (hann len j) (tiltOf slope ref (i0 + j)))) (unit j (omega arith)))
 
--- the fit of an element with such an interior, at fs 3,000
-abbrev pub unitFit : KeyedElement → Float → ElementFit
-unitFit e ref = record { element = e; gain = real 1; «slope_rad_per_sample» = plus-zero; «ref_sample» = ref }
-
 pub block-3000 : slopeBlock (of 3000) ≡ 2
 unfolding slopeBlock SLOPE_BLOCK_S maxOf roundOf wholeBy fraction round mul lt isNan ofInt ofBits toUnsigned
 block-3000 = refl
@@ -112,6 +111,7 @@ fit-unit iq cyc e i0 len ref inside level unit =
       gain-unit iq cyc i0 len unit plus-zero ref,
       level .gain,
       level .weight,
+      literals .0,
     )
 
 -- ---- the recordings of the table
@@ -132,6 +132,16 @@ element-unit a e i0 len el ref inside level low high short =
 abbrev ones : ℕ → List Float
 ones e = onesOf 100 e 300
 
+-- the elements found in them
+abbrev to-199 : KeyedElement
+to-199 = element (fraction 995 10) (fraction 1995 10) 96 197
+
+abbrev to-160 : KeyedElement
+to-160 = element (fraction 995 10) (fraction 1605 10) 96 158
+
+abbrev to-159 : KeyedElement
+to-159 = element (fraction 995 10) (fraction 1595 10) 96 157
+
 interiors : (interiorOf 300 (of 3000) (fraction 995 10) (fraction 1995 10) ≡ Inside 115 184)
     × (interiorOf 300 (of 3000) (fraction 995 10) (fraction 1605 10) ≡ Inside 115 145)
     × (interiorOf 300 (of 3000) (fraction 995 10) (fraction 1595 10) ≡ Nothing)
@@ -142,44 +152,32 @@ level-69 : Level 115 69 (of 149)
 unfolding refSample lineSlope cSum tiltOf remEuclidOf rem sinOf hannSum fSum hann cosOf sineAt within sineTable PI TAU absOf roundOf wholeBy fraction round add sub mul div neg le lt eq ofInt ofBits toSigned
 level-69 = record { middle = refl; slope = refl; gain = refl; weight = refl }
 
-level-30 : Level 115 30 (fraction 259 2)
+level-30 : Level 115 30 (fraction 1295 10)
 unfolding refSample lineSlope cSum tiltOf remEuclidOf rem sinOf hannSum fSum hann cosOf sineAt within sineTable PI TAU absOf roundOf wholeBy fraction round add sub mul div neg le lt eq ofInt ofBits toSigned
 level-30 = record { middle = refl; slope = refl; gain = refl; weight = refl }
 
-outside-60 : fitOf (ones 159) (of 3000) (of 0 ⊘ of 3000) (from-100 (fraction 1595 10) 157) ≡ Skipped
+outside-60 : fitOf (ones 159) (of 3000) (of 0 ⊘ of 3000) to-159 ≡ Skipped
 unfolding fitOf fitWithin
 outside-60 = let size : samples (ones 159) ≡ 300 = rw (length-ones 100 159 300) in rw (size, interiors .2)
 
--- the fits and the skipped ones of the elements found in the recording
-abbrev pub Fits : (a e n : ℕ) → List ElementFit → List KeyedElement → Type 0
-Fits a e n fits skipped =
-    (fitsFound (onesOf a e n) (of 3000) (of 0) ≡ fits)
-    × (skippedOf (onesOf a e n) (of 3000) (of 0) (elementsFound (onesOf a e n) (of 3000) (of 0)) ≡ skipped)
-
--- Ones at 100..199 of 300: gain (1, 0), slope 0, reference 149. Of 300, ones from 100: 61 of them are fitted; 60 are
--- found, and skipped.
-pub record Table : Type 0 where
-  pub ones-100-199 : Fits 100 199 300 (unitFit (from-100 (fraction 1995 10) 197) (of 149) ∷ []) []
-  pub ones-100-160 : Fits 100 160 300 (unitFit (from-100 (fraction 1605 10) 158) (fraction 259 2) ∷ []) []
-  pub ones-100-159 : Fits 100 159 300 [] (from-100 (fraction 1595 10) 157 ∷ [])
-
 -- of the one element found
-one-fit : (e : ℕ) (el : KeyedElement) (f : ElementFit) → elementsFound (ones e) (of 3000) (of 0) ≡ (el ∷ []) → fitOf (ones e) (of 3000) (of 0 ⊘ of 3000) el ≡ Fitted f → Fits 100 e 300 (f ∷ []) []
+one-fit : (e : ℕ) (el : KeyedElement) (f : ElementFit) → elementsFound (ones e) (of 3000) (of 0) ≡ (el ∷ []) → fitOf (ones e) (of 3000) (of 0 ⊘ of 3000) el ≡ Fitted f → Fits (ones e) (f ∷ []) []
 unfolding fitsFound fitsOf skippedOf those
 one-fit e el f found fit = (rw (found, fit), rw (found, fit))
 
-no-fit : (e : ℕ) (el : KeyedElement) → elementsFound (ones e) (of 3000) (of 0) ≡ (el ∷ []) → fitOf (ones e) (of 3000) (of 0 ⊘ of 3000) el ≡ Skipped → Fits 100 e 300 [] (el ∷ [])
+no-fit : (e : ℕ) (el : KeyedElement) → elementsFound (ones e) (of 3000) (of 0) ≡ (el ∷ []) → fitOf (ones e) (of 3000) (of 0 ⊘ of 3000) el ≡ Skipped → Fits (ones e) [] (el ∷ [])
 unfolding fitsFound fitsOf skippedOf those
 no-fit e el found fit = (rw (found, fit), rw (found, fit))
 
-pub edges : Table
-edges =
-    record {
-      ones-100-199 =
-          one-fit 199 (from-100 (fraction 1995 10) 197) (unitFit (from-100 (fraction 1995 10) 197) (of 149)) (found .ones-100-199 .1)
-          (element-unit 100 199 115 69 (from-100 (fraction 1995 10) 197) (of 149) (interiors .0) level-69 (omega arith) (omega arith) (omega arith));
-      ones-100-160 =
-          one-fit 160 (from-100 (fraction 1605 10) 158) (unitFit (from-100 (fraction 1605 10) 158) (fraction 259 2)) (found .ones-100-160 .1)
-          (element-unit 100 160 115 30 (from-100 (fraction 1605 10) 158) (fraction 259 2) (interiors .1) level-30 (omega arith) (omega arith) (omega arith));
-      ones-100-159 = no-fit 159 (from-100 (fraction 1595 10) 157) (found .ones-100-159 .1) outside-60;
-    }
+pub fitted-100 : Fits (ones 199) (unitFit to-199 (of 149) ∷ []) []
+fitted-100 =
+    one-fit 199 to-199 (unitFit to-199 (of 149)) (found .ones-100-199 .1)
+    (element-unit 100 199 115 69 to-199 (of 149) (interiors .0) level-69 (omega arith) (omega arith) (omega arith))
+
+pub fitted-61 : Fits (ones 160) (unitFit to-160 (fraction 1295 10) ∷ []) []
+fitted-61 =
+    one-fit 160 to-160 (unitFit to-160 (fraction 1295 10)) (found .ones-61 .1)
+    (element-unit 100 160 115 30 to-160 (fraction 1295 10) (interiors .1) level-30 (omega arith) (omega arith) (omega arith))
+
+pub skipped-60 : Fits (ones 159) [] (to-159 ∷ [])
+skipped-60 = no-fit 159 to-159 (found .ones-60 .1) outside-60

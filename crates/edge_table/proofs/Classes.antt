@@ -1,5 +1,5 @@
--- The row of 01's edge table that speaks of classes: fs 3,000, n = 3,000, one fit at 1499.5 to 1599.5. The ends of each
--- range are computed once; what is left is a comparison of whole numbers. Assumes nothing.
+-- The row of 01's edge table that speaks of classes: n = 3,000, one fit at 1499.5 to 1599.5. The ends of each range are
+-- computed once; what is left is a comparison of whole numbers. Assumes nothing.
 use Prim.Native.Nat.{ℕ, _+_, _-_, _*_, _/_, _≤_, _<_}
 use native.Mathlib.Decide.{decLe, decLt}
 use native.Mathlib.Omega.{arith}
@@ -21,19 +21,16 @@ use Rattle.constants.specs.Constants.{RISE_S, EDGE_ZONE_S, RIM_S}
 use Rattle.elements.specs.declared.element.KeyedElement.{KeyedElement}
 use Rattle.elements.proofs.Edges.{step-3000}
 use Rattle.fits.specs.declared.fit.ElementFit.{ElementFit}
 use Rattle.classes.specs.declared.class.BlockClass.{BlockClass}
 use Rattle.classes.specs.declared.class.BlockClass.the-variants.{Edge, Interior, Gap, Other}
-use Rattle.classes.specs.declared.classify.ClassCounts.{ClassCounts}
 use Rattle.classes.specs.Class.{isClass}
 use Rattle.classes.proofs.Codes.{class-same}
 use Rattle.classes.specs.Classify.{Times, timesOf, timesOfFit, blocksOf, blockCentre, firstFrom, pastLast, inRange, inTurn, near, inside, atEdge, elementPaints, fitPaints, onRim, classAt, classOf, countsOf}
+use Rattle.edge_table.specs.Table.{fs, tabled, Classes}
 
 -- from 1499.5 to 1599.5, at 3,000 samples a second
-abbrev pub times : Times
+abbrev times : Times
 times = record { start = fraction 14995 10; end = fraction 15995 10 }
-
-abbrev fs : Float
-fs = of 3000
 
 -- where the interior begins and ends
 abbrev from : Float
@@ -124,15 +121,6 @@ zoned b =
     cond (ltb b 75 || leb 300 b) Other
     (cond (leb 187 b && ltb b 188 || leb 199 b && ltb b 201) Edge (cond (leb 191 b && ltb b 196) Interior (cond (leb 182 b && ltb b 206) Other Gap)))
 
--- a..e, which includes e
-abbrev pub within : ℕ → ℕ → ℕ → Bool
-within a e b = leb a b && leb b e
-
-abbrev pub tabled : ℕ → BlockClass
-tabled b =
-    cond (within 187 187 b || within 199 200 b) Edge
-    (cond (within 191 195 b) Interior (cond (within 75 181 b || within 206 299 b) Gap Other))
-
 zones-all : every (λ b. isClass (zoned b) (tabled b)) 375 ≡ true
 zones-all = refl
 
@@ -164,16 +152,16 @@ counts-so class e = rw (count Edge, count Interior, count Gap, count Other)
     count : (c : BlockClass) → countTo (λ b. isClass c (class b)) 375 ≡ countTo (λ b. isClass c (tabled b)) 375
     count c = count-cong _ _ 375 (λ b h. ap (isClass c) (e b h))
 
--- Edge 187, 199, 200; interior 191..195; gap 75..181 and 206..299; other 166 blocks.
-abbrev pub Row : (ℕ → BlockClass) → Type 0
-Row class = ((b : ℕ) → b < 375 → class b ≡ tabled b) × (countsOf class 375 ≡ record { edge = 3; interior = 5; gap = 201; other = 166 })
-
-row : (class : ℕ → BlockClass) → ((b : ℕ) → b < 375 → class b ≡ zoned b) → Row class
-row class e = (all, counts-so class all ∙ counts-all)
+row : (fits : List ElementFit) (elements : List KeyedElement) → ((b : ℕ) → b < 375 → classOf fs 3000 fits elements b ≡ zoned b) → Classes fits elements
+row fits elements e = (all, counts-so (classOf fs 3000 fits elements) all ∙ counts-all)
   where
-    all : (b : ℕ) → b < 375 → class b ≡ tabled b
+    all : (b : ℕ) → b < 375 → classOf fs 3000 fits elements b ≡ tabled b
     all b h = e b h ∙ zoned-so b h
 
-pub edges : (blocksOf fs 3000 ≡ 375)
-    × ((f : ElementFit) → timesOfFit f ≡ times → Row (classOf fs 3000 (f ∷ []) []) × Row (classOf fs 3000 (f ∷ []) (f .element ∷ [])))
-edges = (rw step-3000, λ f e. (row _ (λ b h. rw e (unfound b h)), row _ (λ b h. rw e (found b h))))
+pub blocks-3000 : blocksOf fs 3000 ≡ 375
+blocks-3000 = rw step-3000
+
+pub classed : (f : ElementFit) → f .element .start ≡ fraction 14995 10 → f .element .end ≡ fraction 15995 10 → Classes (f ∷ []) [] × Classes (f ∷ []) (f .element ∷ [])
+classed f s e =
+    let at : timesOfFit f ≡ times = rw (s, e) in
+    (row (f ∷ []) [] (λ b h. rw at (unfound b h)), row (f ∷ []) (f .element ∷ []) (λ b h. rw at (found b h)))

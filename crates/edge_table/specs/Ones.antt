@@ -1,5 +1,5 @@
 -- The recordings of 01's edge table: samples 0 or (1, 0). Definitions only.
-use Prim.Native.Nat.{ℕ, zero, suc}
+use Prim.Native.Nat.{ℕ, zero, suc, _+_, _-_}
 use mathlib.Core.Bool.{Bool, _&&_, cond}
 use mathlib.Core.List.{List, [], _∷_, _++_}
 use lib.Dec.{leb}
@@ -15,3 +15,7 @@ unfoldable pub onesOf : ℕ → ℕ → ℕ → List Float
 unfolding isOne
 onesOf a e zero = []
 onesOf a e (suc k) = onesOf a e k ++ (of (cond (isOne a e k) 1 0) ∷ of 0 ∷ [])
+
+-- m ones from sample a on, of n
+abbrev pub onesFrom : ℕ → ℕ → ℕ → List Float
+onesFrom a m n = onesOf a (a + m - 1) n

@@ -21,8 +21,8 @@ use Rattle.complex.specs.Rows.{zAt, cSum}
 use Rattle.row.specs.Blocks.{rotorOf, derot, meanFrom, blockMean}
 use Rattle.row.specs.Envelope.{runningSum, amplitude}
 use Rattle.row.proofs.Unturned.{rotor-unturned}
-use Rattle.elements.specs.Ones.{isOne, onesOf}
 use Rattle.elements.proofs.KeyDowns.{either}
+use Rattle.edge_table.specs.Ones.{isOne, onesOf}
 
 -- a whole number as a complex one
 abbrev pub real : ℕ → Complex
