@@ -14,7 +14,7 @@ use Rattle.trig.specs.Circle.{sinOf, cosOf}
 use Rattle.constants.specs.Constants.{SLOPE_BLOCK_S}
 use Rattle.complex.specs.Value.{cNew}
 use Rattle.row.specs.Window.{stepOf, windowOf}
-use Rattle.rank.specs.Percentile.{rankOf}
+use Rattle.rank.specs.Select.{rankOf}
 use Rattle.elements.specs.declared.element.KeyedElement.{KeyedElement}
 use Rattle.elements.specs.declared.keying.Found.{Found}
 use Rattle.elements.specs.Find.{foundOf, elementsFound}
