@@ -1,9 +1,9 @@
--- What an accepted call hands out. The premise `promise` of each theorem is what the call ensures where it answers
--- `Done` and leaves `left`, `fits-left` and `scratch` in the slices it was lent. `Singles iq` says that every number of
--- the recording is an f32, as in every slice of f32. Assumes nothing.
+-- What an accepted call hands out. The premises `promise` and `singles` of each theorem are what the call ensures
+-- where it answers `Done` and leaves `left`, `fits-left` and `scratch` in the slices it was lent; `singles` says that
+-- every number of the recording is an f32. Assumes nothing.
 use Prim.Native.Nat.{ℕ, _+_, _-_}
 use native.Mathlib.Omega.{arith}
-use mathlib.Core.Path.{_≡_, ap}
+use mathlib.Core.Path.{_≡_, ap, _∙_}
 use mathlib.Core.Bool.{not}
 use mathlib.Core.List.{List, [], map, List·Memᴰ}
 use lib.ListN.{length}
@@ -11,15 +11,15 @@ use lib.Ieee.{Float}
 use Rattle.float.specs.Ops.{_⊘_}
 use Rattle.lists.specs.Those.{those}
 use Rattle.lists.proofs.Firsts.{length-firsts}
+use Rattle.row.specs.Samples.{Singles}
 use Rattle.row.specs.Window.{stepOf}
 use Rattle.row.specs.Envelope.{rowOf, rowLength}
-use Rattle.row.proofs.Bounds.{Singles}
 use Rattle.elements.specs.declared.keying.Found.{Found}
 use Rattle.elements.specs.Element.{elementAt, elementsIn}
-use Rattle.elements.specs.Keying.{LongKeyDowns}
-use Rattle.elements.specs.Find.{At, Absent, thresholdOf}
+use Rattle.elements.specs.Keying.{LongKeyDowns, RowCounts, noKeyDowns}
+use Rattle.elements.specs.Find.{At, Absent, thresholdOf, foundOf}
 use Rattle.elements.proofs.Records.{elements-read}
-use Rattle.elements.proofs.Exactly.{handed-exactly, handed-nothing}
+use Rattle.elements.proofs.Exactly.{handed-exactly, handed-nothing, counted-exactly, counted-nothing}
 use Rattle.fits.specs.declared.fit.ElementFit.{ElementFit}
 use Rattle.fits.specs.declared.fit.Fit.the-variants.{Fitted}
 use Rattle.fits.specs.declared.estimate.Estimate.{Estimate}
@@ -43,17 +43,26 @@ use Rattle.cancel.proofs.EstimateAccepted.{estimate-accepted, estimate-
 
 module _ (iq : List Float) (fs hz : Float) (elements work : List Float) (f : Found) (left scratch : List Float)
     (promise : findOutcome (find.Done f) left scratch ≡ findRule iq fs hz elements work) where
-  -- A pair is among the elements handed out exactly if it is a key-down of the row and long; each is there once, in
-  -- order, each down before the next up.
-  pub find-exactly : Singles iq → (thr : Float) → thresholdOf iq fs hz ≡ At thr
-      → LongKeyDowns (rowOf iq fs hz) thr (rowLength iq fs - 1) (stepOf fs) fs (elementsIn left (f .listed))
-  find-exactly s thr t =
-      let told = find-done iq fs hz elements work _ promise in
-      handed-exactly iq fs hz left elements (f .listed) (told .2) s (find-accepted iq fs hz _ _ (told .0) .iq-ok) thr t
+  module _ (singles : Singles iq) where
+    -- A pair is among the elements handed out exactly if it is a key-down of the row and long; each is there once, in
+    -- order, each down before the next up.
+    pub find-exactly : (thr : Float) → thresholdOf iq fs hz ≡ At thr
+        → LongKeyDowns (rowOf iq fs hz) thr (rowLength iq fs - 1) (stepOf fs) fs (elementsIn left (f .listed))
+    find-exactly thr t =
+        let told = find-done iq fs hz elements work _ promise in
+        handed-exactly iq fs hz left elements (f .listed) (told .2) singles (find-accepted iq fs hz _ _ (told .0) .iq-ok) thr t
+
+    -- Key-downs, listed and short are how many of each the row has.
+    pub find-counted : (thr : Float) → thresholdOf iq fs hz ≡ At thr → RowCounts (rowOf iq fs hz) thr (rowLength iq fs - 1) (stepOf fs) fs f
+    find-counted thr t =
+        let told = find-done iq fs hz elements work _ promise in
+        rw (told .1) (counted-exactly iq fs hz singles (find-accepted iq fs hz _ _ (told .0) .iq-ok) thr t)
 
   -- With no threshold, nothing.
-  pub find-nothing : thresholdOf iq fs hz ≡ Absent → elementsIn left (f .listed) ≡ []
-  find-nothing t = handed-nothing iq fs hz left elements (f .listed) (find-done iq fs hz elements work _ promise .2) t
+  pub find-nothing : thresholdOf iq fs hz ≡ Absent → (elementsIn left (f .listed) ≡ []) × (f ≡ noKeyDowns)
+  find-nothing t =
+      let told = find-done iq fs hz elements work _ promise in
+      (handed-nothing iq fs hz left elements (f .listed) (told .2) t, told .1 ∙ counted-nothing iq fs hz t)
 
 -- ---- fit_elements
 
@@ -86,17 +95,29 @@ module _ (iq : List Float) (fs hint : Float) (elements fits work : List Float) (
   unfolding strongEstimate
   at-refined = ap (λ (e : Estimate). e .«carrier_hz») (estimate-done iq fs hint elements fits work _ promise .1)
 
-  -- The elements handed out are those of the second find, as of find_elements.
-  pub estimate-exactly : Singles iq → (thr : Float) → thresholdOf iq fs (d .«carrier_hz») ≡ At thr
-      → LongKeyDowns (rowOf iq fs (d .«carrier_hz»)) thr (rowLength iq fs - 1) (stepOf fs) fs (elementsIn left (d .found .listed))
-  estimate-exactly s thr t =
-      let told = estimate-done iq fs hint elements fits work _ promise in
-      let known = estimate-accepted iq fs hint _ _ _ (told .0) in
-      rw at-refined (handed-strong iq fs hint left elements _ (told .2) s (known .iq-ok) thr (rw at-refined at t))
+  found-is : d .found ≡ foundOf iq fs (d .«carrier_hz»)
+  unfolding strongEstimate
+  found-is = rw at-refined (ap (λ (e : Estimate). e .found) (estimate-done iq fs hint elements fits work _ promise .1))
 
-  pub estimate-nothing : thresholdOf iq fs (d .«carrier_hz») ≡ Absent → elementsIn left (d .found .listed) ≡ []
+  module _ (singles : Singles iq) where
+    -- The elements handed out and the counts are those of the second find, as of find_elements.
+    pub estimate-exactly : (thr : Float) → thresholdOf iq fs (d .«carrier_hz») ≡ At thr
+        → LongKeyDowns (rowOf iq fs (d .«carrier_hz»)) thr (rowLength iq fs - 1) (stepOf fs) fs (elementsIn left (d .found .listed))
+    estimate-exactly thr t =
+        let told = estimate-done iq fs hint elements fits work _ promise in
+        let known = estimate-accepted iq fs hint _ _ _ (told .0) in
+        rw at-refined (handed-strong iq fs hint left elements _ (told .2) singles (known .iq-ok) thr (rw at-refined at t))
+
+    pub estimate-counted : (thr : Float) → thresholdOf iq fs (d .«carrier_hz») ≡ At thr
+        → RowCounts (rowOf iq fs (d .«carrier_hz»)) thr (rowLength iq fs - 1) (stepOf fs) fs (d .found)
+    estimate-counted thr t =
+        let known = estimate-accepted iq fs hint _ _ _ (estimate-done iq fs hint elements fits work _ promise .0) in
+        rw found-is (counted-exactly iq fs (d .«carrier_hz») singles (known .iq-ok) thr t)
+
+  -- With no threshold, nothing.
+  pub estimate-nothing : thresholdOf iq fs (d .«carrier_hz») ≡ Absent → (elementsIn left (d .found .listed) ≡ []) × (d .found ≡ noKeyDowns)
   estimate-nothing t =
-      handed-strong-nothing iq fs hint left elements _ (estimate-done iq fs hint elements fits work _ promise .2) (rw at-refined at t)
+      (handed-strong-nothing iq fs hint left elements _ (estimate-done iq fs hint elements fits work _ promise .2) (rw at-refined at t), found-is ∙ counted-nothing iq fs (d .«carrier_hz») t)
 
   -- The fits handed out are, in order, of those of these elements that are not skipped, and each is the fit of its
   -- element.

@@ -9,14 +9,16 @@
 -- FindAccepted, FitAccepted, EstimateAccepted, ResidualAccepted, EvidenceAccepted, SubtractAccepted, RunAccepted
 --             of each call: what it goes on with, `find-accepted`; its result by its parts, `find-result`; what its
 --             promise says: `find-refused`, `find-done`; `estimate-counts`
--- Handed      theorems on what an accepted call hands out, in 01's terms: `find-exactly`, `find-nothing`;
---             `fit-elements-are`, `fit-each`, `fit-skipped`; `estimate-exactly`, `estimate-nothing`,
+-- Handed      theorems on what an accepted call hands out, in 01's terms: `find-exactly`, `find-counted`,
+--             `find-nothing`; `fit-elements-are`, `fit-each`, `fit-skipped`; `estimate-exactly`, `estimate-counted`,
+--             `estimate-nothing`,
 --             `estimate-elements-are`, `estimate-each`, `estimate-skipped`
 -- RunPromises     the user's third demand, of every accepted run: `carrier-is`, `step-is`, `found-is`,
 --             `fits-of-listed`, `fits-each`, `fitted-counted`, `skipped-is`, `samples-is`, `window-is`;
 --             `key-downs-balance`, `listed-balance`, `blocks-balance`; `blocks-are`, `classes-are`, `residual-is`,
---             `evidence-is`, `hypothesis-is`; `list-exactly`, `list-nothing`; `taken-exactly`, `kept-unchanged`,
---             `taken-leaves`, `outside-unchanged`; `same-residual`, `same-evidence`, `same-hypothesis`
+--             `evidence-is`, `hypothesis-is`; `counts-exactly`, `counts-nothing`; `list-exactly`, `list-nothing`;
+--             `taken-exactly`, `kept-unchanged`, `taken-leaves`, `outside-unchanged`; `same-residual`,
+--             `same-evidence`, `same-hypothesis`
 pub mod FirstNo
 pub mod Given
 pub mod Accepted

@@ -1,7 +1,7 @@
 -- What every accepted run answers and leaves in what it was lent (the user's third demand): the final estimate, the
 -- balances, each figure from the lists that it hands out, the list, the word kept or taken with the buffer, and what
--- two runs share. `promise` is what `cancel::run` ensures where it answers `Done`; `Singles` of a recording, that each
--- number of it is an f32, is what every slice of f32 has. Assumes nothing.
+-- two runs share. `promise` and `singles` are what `cancel::run` ensures where it answers `Done`; `singles` says that
+-- each number that the buffer held is an f32. Nothing else is asked of a caller. Assumes nothing.
 use Prim.Native.Nat.{ℕ, _+_, _-_, _<_}
 use native.Mathlib.Omega.{arith}
 use mathlib.Core.Path.{_≡_, refl, sym, ap, _∙_, subst}
@@ -14,15 +14,16 @@ use Rattle.float.specs.Ops.{_⊘_}
 use Rattle.lists.specs.Those.{those}
 use Rattle.lists.proofs.Firsts.{length-firsts}
 use Rattle.complex.specs.Rows.{zAt}
+use Rattle.row.specs.Samples.{Singles}
 use Rattle.row.specs.Window.{stepOf, windowOf, samples, blocks}
 use Rattle.row.specs.Envelope.{rowOf, rowLength}
-use Rattle.row.proofs.Bounds.{Singles}
 use Rattle.elements.specs.declared.element.KeyedElement.{KeyedElement}
 use Rattle.elements.specs.Element.{elementsIn}
-use Rattle.elements.specs.Keying.{LongKeyDowns}
+use Rattle.elements.specs.Keying.{LongKeyDowns, RowCounts, noKeyDowns}
 use Rattle.elements.specs.Find.{At, Absent, thresholdOf, foundOf}
 use Rattle.elements.proofs.Records.{elements-read}
 use Rattle.elements.proofs.Recording.{all-counted}
+use Rattle.elements.proofs.Exactly.{counted-exactly, counted-nothing}
 use Rattle.fits.specs.declared.fit.ElementFit.{ElementFit}
 use Rattle.fits.specs.declared.fit.Fit.the-variants.{Fitted}
 use Rattle.fits.specs.Fit.{fitOf}
@@ -33,7 +34,7 @@ use Rattle.fits.proofs.Strong.{handed-strong, handed-strong-nothing, handed-str
 use Rattle.synth.specs.Span.{spanOf, covers}
 use Rattle.synth.specs.Removal.{subtracted}
 use Rattle.synth.proofs.Samples.{outside-spans}
-use Rattle.synth.proofs.RustFields.{rustOf}
+use Rattle.synth.specs.RustFields.{rustOf}
 use Rattle.classes.specs.declared.class.BlockClass.{BlockClass}
 use Rattle.classes.specs.declared.class.BlockClass.the-variants.{Edge, Interior, Gap, Other}
 use Rattle.classes.specs.Classify.{timesOf, classOf, countsOf}
@@ -43,7 +44,8 @@ use Rattle.measure.specs.declared.evidence.SecondCarrierEvidence.{SecondCarrier
 use Rattle.measure.specs.Residual.{residualCheckOf}
 use Rattle.measure.specs.Evidence.{evidenceCheckOf}
 use Rattle.measure.specs.Hypothesis.{hypothesisOf}
-use Rattle.measure.proofs.Reach.{AgreeIn, residual-reach}
+use Rattle.measure.specs.Agree.{AgreeIn}
+use Rattle.measure.proofs.Reach.{residual-reach}
 use Rattle.measure.proofs.ReachEvidence.{evidence-check-reach}
 use Rattle.engine.specs.declared.run.Figures.{Figures}
 use Rattle.engine.specs.Run.{takes, runClass, runTaken, runFigures, runBuffer}
@@ -154,13 +156,26 @@ module _ (buf : List Float) (fs hint : Float) (elements fits work : List Float) 
   unfolding runFigures
   hypothesis-is = rw figures-are
 
-  -- ---- The list holds the key-downs whose computed length is at least RISE_S × fs, each once, in order, nothing else.
-  pub list-exactly : Singles buf → (thr : Float) → thresholdOf buf fs (f .estimate .«carrier_hz») ≡ At thr
-      → LongKeyDowns (rowOf buf fs (f .estimate .«carrier_hz»)) thr (rowLength buf fs - 1) (stepOf fs) fs elements-out
-  list-exactly s thr t =
-      let told = run-done buf fs hint elements fits work _ promise in
-      let known = estimate-accepted buf fs hint _ _ _ (told .0) in
-      rw at-refined (handed-strong buf fs hint left elements _ (told .3) s (known .iq-ok) thr (rw at-refined at t))
+  -- ---- Key-downs, listed and short, as counts, are how many of each the row at the final carrier has: there is a list
+  -- that has each of its key-downs once, in order, and nothing else, and of it they are counted.
+  module _ (singles : Singles buf) where
+    pub counts-exactly : (thr : Float) → thresholdOf buf fs (f .estimate .«carrier_hz») ≡ At thr
+        → RowCounts (rowOf buf fs (f .estimate .«carrier_hz»)) thr (rowLength buf fs - 1) (stepOf fs) fs (f .estimate .found)
+    counts-exactly thr t =
+        let known = estimate-accepted buf fs hint _ _ _ (run-done buf fs hint elements fits work _ promise .0) in
+        rw found-is (counted-exactly buf fs (f .estimate .«carrier_hz») singles (known .iq-ok) thr t)
+
+    -- The list holds the key-downs whose computed length is at least RISE_S × fs, each once, in order, nothing else.
+    pub list-exactly : (thr : Float) → thresholdOf buf fs (f .estimate .«carrier_hz») ≡ At thr
+        → LongKeyDowns (rowOf buf fs (f .estimate .«carrier_hz»)) thr (rowLength buf fs - 1) (stepOf fs) fs elements-out
+    list-exactly thr t =
+        let told = run-done buf fs hint elements fits work _ promise in
+        let known = estimate-accepted buf fs hint _ _ _ (told .0) in
+        rw at-refined (handed-strong buf fs hint left elements _ (told .3) singles (known .iq-ok) thr (rw at-refined at t))
+
+  -- With no threshold, nothing.
+  pub counts-nothing : thresholdOf buf fs (f .estimate .«carrier_hz») ≡ Absent → f .estimate .found ≡ noKeyDowns
+  counts-nothing t = found-is ∙ counted-nothing buf fs (f .estimate .«carrier_hz») t
 
   pub list-nothing : thresholdOf buf fs (f .estimate .«carrier_hz») ≡ Absent → elements-out ≡ []
   list-nothing t = handed-strong-nothing buf fs hint left elements _ (run-done buf fs hint elements fits work _ promise .3) (rw at-refined at t)

@@ -7,6 +7,7 @@ use elements::ELEMENT;
 use fits::Estimate;
 use fits::FIT;
 ghost use mathlib.Core.Path.{_≡_};
+ghost use Rattle.row.specs.Samples.{Singles};
 ghost use Rattle.cancel.specs.Questions.{firstNo};
 ghost use Rattle.cancel.specs.Estimate.{estimateQuestions, estimateOutcome, estimateRule};
 
@@ -38,7 +39,8 @@ fn estimate_no(iq: &[f32], fs: f64, hint_hz: f64, elements: usize, fits: usize, 
     0
 }
 
-// Rust: estimate_strong. It asks first; the lists are lent, and the counts of the second pass are added.
+// Rust: estimate_strong. It asks first; the lists are lent, and the counts of the second pass are added. Each number of
+// the recording is an f32, as in find_elements.
 pub fn estimate_strong(
     iq: &[f32],
     fs: f64,
@@ -49,12 +51,13 @@ pub fn estimate_strong(
 ) -> EstimateAnswer
     ensures { λ r. ⌜ estimateOutcome r (now (elements .exit)) (now (fits .exit)) (now (work .exit))
         ≡ estimateRule (now (iq .entry)) fs «hint_hz» (now (elements .entry)) (now (fits .entry)) (now (work .entry)) ⌝ }
+    ensures { λ _. ⌜ Singles (now (iq .entry)) ⌝ }
 {
     let no = estimate_no(iq, fs, hint_hz, elements.len(), fits.len(), work.len());
     if no != 0 {
         return EstimateAnswer::Refused(no);
     }
-    let sine = trig::SINE;
+    let sine = trig::sine_table();
     let estimate = fits::estimate_strong(iq, fs, hint_hz, elements, fits, work, &sine);
     EstimateAnswer::Done(estimate)
 }

@@ -76,7 +76,7 @@ pub fn second_carrier_evidence(
     if no != 0 {
         return EvidenceAnswer::Refused(no);
     }
-    let sine = trig::SINE;
+    let sine = trig::sine_table();
     let evidence = measure::second_carrier_evidence(
         iq,
         fs,

@@ -6,6 +6,7 @@ use crate::questions::work_ok;
 use elements::ELEMENT;
 use elements::Found;
 ghost use mathlib.Core.Path.{_≡_};
+ghost use Rattle.row.specs.Samples.{Singles};
 ghost use Rattle.cancel.specs.Questions.{firstNo};
 ghost use Rattle.cancel.specs.Find.{findQuestions, findOutcome, findRule};
 
@@ -34,7 +35,8 @@ fn find_no(iq: &[f32], fs: f64, carrier_hz: f64, elements: usize, work: usize) -
     0
 }
 
-// Rust: find_elements. It asks first, counts, and keeps each element's positions; the list is lent.
+// Rust: find_elements. It asks first, counts, and keeps each element's positions; the list is lent. What is promised of
+// the numbers it was handed, that each is an f32, is what the theorems on key-downs go by.
 pub fn find_elements(
     iq: &[f32],
     fs: f64,
@@ -44,12 +46,13 @@ pub fn find_elements(
 ) -> FindAnswer
     ensures { λ r. ⌜ findOutcome r (now (elements .exit)) (now (work .exit))
         ≡ findRule (now (iq .entry)) fs «carrier_hz» (now (elements .entry)) (now (work .entry)) ⌝ }
+    ensures { λ _. ⌜ Singles (now (iq .entry)) ⌝ }
 {
     let no = find_no(iq, fs, carrier_hz, elements.len(), work.len());
     if no != 0 {
         return FindAnswer::Refused(no);
     }
-    let sine = trig::SINE;
+    let sine = trig::sine_table();
     let found = elements::find_elements(iq, fs, carrier_hz, elements, work, &sine);
     FindAnswer::Done(found)
 }

@@ -62,7 +62,7 @@ pub fn fit_elements(
     if no != 0 {
         return FitAnswer::Refused(no);
     }
-    let sine = trig::SINE;
+    let sine = trig::sine_table();
     let fitted = fits::fit_elements(iq, fs, carrier_hz, elements, count, fits, work, &sine);
     FitAnswer::Done(fitted)
 }

@@ -67,7 +67,7 @@ pub fn subtract(
     if no != 0 {
         return SubtractAnswer::Refused(no);
     }
-    let sine = trig::SINE;
+    let sine = trig::sine_table();
     synth::subtract(buf, fs, carrier_hz, fits, fit_count, &sine);
     SubtractAnswer::Done
 }

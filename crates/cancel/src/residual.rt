@@ -75,7 +75,7 @@ pub fn residual_check(
     if no != 0 {
         return ResidualAnswer::Refused(no);
     }
-    let sine = trig::SINE;
+    let sine = trig::sine_table();
     let check = measure::residual_check(
         iq,
         fs,

@@ -17,7 +17,7 @@ ghost use Rattle.complex.specs.Value.{cNew, cNorm};
 pub extern "C" fn cancel_sin(x: f64) -> f64
     ensures { λ r. ⌜ r ≡ sinOf x ⌝ }
 {
-    let sine = trig::SINE;
+    let sine = trig::sine_table();
     trig::sin(x, &sine)
 }
 
@@ -25,7 +25,7 @@ pub extern "C" fn cancel_sin(x: f64) -> f64
 pub extern "C" fn cancel_cos(x: f64) -> f64
     ensures { λ r. ⌜ r ≡ cosOf x ⌝ }
 {
-    let sine = trig::SINE;
+    let sine = trig::sine_table();
     trig::cos(x, &sine)
 }
 
@@ -65,7 +65,7 @@ pub extern "C" fn cancel_cos_sin(angles: &[f64], out: &mut [f64]) -> usize
     ensures { λ r. ⌜ (r ≡ min (length (now (angles .entry))) (length (now (out .entry)) / 2))
         × (now (out .exit) ≡ zFill (now (out .entry)) 0 (unitAt (now (angles .entry))) (min (length (now (angles .entry))) (length (now (out .entry)) / 2))) ⌝ }
 {
-    let sine = trig::SINE;
+    let sine = trig::sine_table();
     let n = shorter(angles.len(), out.len() / 2);
     units(angles, out, n, &sine);
     n

@@ -17,14 +17,14 @@ use Rattle.float.specs.Ops.{_⊖_, _⊗_, _⊘_, half, plus-zero}
 use Rattle.float.proofs.Compared.{yes}
 use Rattle.float.proofs.Bounds.{Bounded, bounded-more, bounded-add, bounded-sub, bounded-mul, bounded-div, bounded-whole, bounded-one, beyond-two}
 use Rattle.float.proofs.Amounts.{Amount, amount-half, amount-number, Crosses, share-bounded}
-use Rattle.row.specs.Samples.{Iq}
+use Rattle.row.specs.Samples.{Singles, Iq}
 use Rattle.row.specs.Window.{Rate, stepOf, blocks, centreOf}
 use Rattle.row.specs.Envelope.{rowOf, rowLength}
 use Rattle.lists.specs.Firsts.{firsts}
 use Rattle.row.proofs.Means.{blocks-short}
 use Rattle.row.proofs.Steps.{step-high}
 use Rattle.lists.proofs.Firsts.{length-firsts, getD-firsts}
-use Rattle.row.proofs.Bounds.{Singles, row-amount}
+use Rattle.row.proofs.Bounds.{row-amount}
 use Rattle.rank.specs.declared.Percentile.{Percentile}
 use Rattle.rank.specs.declared.Percentile.the-variants.{Value, Nothing}
 use Rattle.rank.specs.Select.{percentileOf}

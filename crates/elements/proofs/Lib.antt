@@ -10,7 +10,8 @@
 -- Bounds      the numbers of every element found are finite: `found-bounded`; `threshold-amount`, `recorded-is`
 -- Recording   counts of a recording: `key-downs-counted`, `listed-counted`, `all-counted`; `enough-places`
 -- Exactly     what is found and handed out: the long key-downs, each once, in order, and nothing else: `found-exactly`,
---             `handed-exactly`; without a threshold nothing: `found-nothing`, `handed-nothing`
+--             `handed-exactly`; counted are all key-downs of the row: `counted-exactly`; without a threshold nothing:
+--             `found-nothing`, `handed-nothing`, `counted-nothing`
 -- Ways        the ways out of `find_elements`
 -- Edges       at fs 3,000: `step-3000`, `window-3000`
 pub mod Records

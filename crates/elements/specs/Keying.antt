@@ -131,3 +131,15 @@ module _ (row : ℕ → Float) (thr : Float) (step : ℕ) (fs : Float) where
 
   unfoldable pub elementsTo : ℕ → List KeyedElement
   elementsTo j = elementsOf (keyDowns row thr j)
+
+-- Key-downs, listed and short, as counts, are how many of each the row has, and airtime is over the listed ones: of a
+-- list that has every key-down of the row once, in order, and nothing else. `counted-exactly` of the proofs says so of
+-- what is counted in a recording.
+pub record RowCounts (row : ℕ → Float) (thr : Float) (last step : ℕ) (fs : Float) (f : Found) : Type 0 where
+  pub all : List KeyDown
+  pub in-order : InOrder all
+  pub exactly : (k : KeyDown) → List·Memᴰ k all ↔ IsKeyDown row thr last k
+  pub key-downs : f .«key_downs» ≡ length all
+  pub listed : f .listed ≡ length (listedOf row thr step fs all)
+  pub short : f .short ≡ length (shortOf row thr step fs all)
+  pub airtime : f .airtime ≡ airtimeOf step (listedOf row thr step fs all)

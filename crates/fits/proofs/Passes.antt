@@ -9,9 +9,8 @@ use lib.Ieee.{Float, nan, inf, fin}
 use Rattle.float.specs.Ops.{_⊕_}
 use Rattle.float.proofs.Within.{Within, within-more, within-le}
 use Rattle.float.proofs.Bounds.{Bounded}
-use Rattle.row.specs.Samples.{Iq}
+use Rattle.row.specs.Samples.{Singles, Iq}
 use Rattle.row.specs.Window.{Rate, stepBlocks}
-use Rattle.row.proofs.Bounds.{Singles}
 use Rattle.elements.specs.declared.element.KeyedElement.{KeyedElement}
 use Rattle.elements.specs.declared.keying.Found.{Found}
 use Rattle.elements.specs.Element.{ELEMENT, elementAt, elementsIn, handed, handedElements}

@@ -9,10 +9,9 @@ use lib.ListN.{length}
 use lib.Ieee.{Float}
 use Rattle.float.specs.Ops.{_⊘_}
 use Rattle.lists.specs.Those.{those}
-use Rattle.row.specs.Samples.{Iq}
+use Rattle.row.specs.Samples.{Singles, Iq}
 use Rattle.row.specs.Window.{stepOf}
 use Rattle.row.specs.Envelope.{rowOf, rowLength}
-use Rattle.row.proofs.Bounds.{Singles}
 use Rattle.elements.specs.Element.{ELEMENT, elementsIn, handed, handedElements}
 use Rattle.elements.specs.Keying.{LongKeyDowns}
 use Rattle.elements.specs.Find.{At, Absent, thresholdOf, elementsFound}

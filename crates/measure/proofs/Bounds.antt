@@ -21,11 +21,11 @@ use Rattle.lists.specs.Firsts.{firsts}
 use Rattle.complex.specs.declared.value.Complex.{Complex}
 use Rattle.complex.specs.Value.{cSub, cDiv}
 use Rattle.complex.proofs.Bounds.{CBounded, cbounded-more, cbounded-sub, cbounded-div}
-use Rattle.row.specs.Samples.{Iq}
+use Rattle.row.specs.Samples.{Singles, Iq}
 use Rattle.row.specs.Window.{Rate, windowOf, blocks}
 use Rattle.row.specs.Blocks.{blockMean}
 use Rattle.row.proofs.Steps.{step-low, step-high}
-use Rattle.row.proofs.Bounds.{Singles, block-bounded}
+use Rattle.row.proofs.Bounds.{block-bounded}
 use Rattle.rank.specs.declared.Percentile.the-variants.{Value}
 use Rattle.rank.specs.Select.{percentileOf}
 use Rattle.rank.proofs.Among.{percentile-keeps}

@@ -18,11 +18,11 @@ use Rattle.constants.specs.Constants.{REFERENCE_OFFSET_HZ, MIN_POSITIVE}
 use Rattle.rank.specs.Order.{minusZero, precedes}
 use Rattle.rank.proofs.Sorted.{Every}
 use Rattle.complex.specs.declared.value.Complex.{Complex}
-use Rattle.row.specs.Samples.{Iq}
+use Rattle.row.specs.Samples.{Singles, Iq}
 use Rattle.row.specs.Window.{stepOf, windowOf, blocks}
 use Rattle.row.specs.Blocks.{blockMean}
 use Rattle.row.proofs.Steps.{step-low}
-use Rattle.row.proofs.Bounds.{Singles, block-bounded}
+use Rattle.row.proofs.Bounds.{block-bounded}
 use Rattle.measure.specs.Powers.{blockPower}
 use Rattle.measure.specs.Reference.{sideOf, referenceFrom}
 use Rattle.measure.specs.Evidence.{meanAt}

@@ -13,12 +13,13 @@ use Rattle.float.specs.Ops.{_⊘_, of}
 use Rattle.lists.proofs.Those.{picked-cong}
 use Rattle.complex.specs.declared.value.Complex.{Complex}
 use Rattle.complex.specs.Value.{cMul, cConj, cDiv, cNormSqr}
-use Rattle.complex.specs.Rows.{zAt, cSum}
+use Rattle.complex.specs.Rows.{cSum}
 use Rattle.row.specs.Window.{windowOf, samples, blocks}
 use Rattle.row.specs.Blocks.{rotorOf, derot, meanFrom, blockMean}
 use Rattle.elements.specs.declared.element.KeyedElement.{KeyedElement}
 use Rattle.fits.specs.declared.fit.ElementFit.{ElementFit}
-use Rattle.synth.proofs.RustFields.{rustOf, span-alike, synth-alike}
+use Rattle.synth.specs.RustFields.{rustOf}
+use Rattle.synth.proofs.RustFields.{span-alike, synth-alike}
 use Rattle.classes.specs.declared.class.BlockClass.{BlockClass}
 use Rattle.classes.specs.declared.class.BlockClass.the-variants.{Edge, Interior, Gap, Other}
 use Rattle.classes.specs.Class.{isClass}
@@ -27,12 +28,9 @@ use Rattle.classes.proofs.ByTimes.{class-by-times}
 use Rattle.measure.specs.Powers.{blockPower, powersOf}
 use Rattle.measure.specs.Left.{takenFrom, lessFit, lessFits, residualMean}
 use Rattle.measure.specs.Residual.{residualOf, residualCheckOf}
+use Rattle.measure.specs.Agree.{AgreeIn}
 
 -- ---- the samples of a block
-
--- two recordings agree in the samples of block b
-abbrev pub AgreeIn : List Float → List Float → ℕ → ℕ → Type 0
-AgreeIn iq iq' len b = (k : ℕ) → b * len ≤ k → k < b * len + len → zAt iq k ≡ zAt iq' k
 
 sum-agree : (f g : ℕ → Complex) (a n : ℕ) → ((k : ℕ) → a ≤ k → k < a + n → f k ≡ g k) → cSum f a n ≡ cSum g a n
 unfolding cSum

@@ -12,13 +12,14 @@ use Rattle.float.specs.Ops.{_⊘_}
 use Rattle.row.specs.Window.{windowOf, samples, blocks}
 use Rattle.elements.specs.declared.element.KeyedElement.{KeyedElement}
 use Rattle.fits.specs.declared.fit.ElementFit.{ElementFit}
-use Rattle.synth.proofs.RustFields.{rustOf}
+use Rattle.synth.specs.RustFields.{rustOf}
 use Rattle.classes.specs.declared.class.BlockClass.{BlockClass}
 use Rattle.classes.specs.declared.class.BlockClass.the-variants.{Edge, Interior, Gap, Other}
 use Rattle.classes.specs.Class.{isClass}
 use Rattle.classes.specs.Classify.{timesOf, classOf}
 use Rattle.measure.specs.Evidence.{isIn, meanAt, referenceOf, evidenceOf, evidenceCheckOf}
-use Rattle.measure.proofs.Reach.{AgreeIn, block-agree, class-alike}
+use Rattle.measure.specs.Agree.{AgreeIn}
+use Rattle.measure.proofs.Reach.{block-agree, class-alike}
 use Rattle.measure.proofs.Same.{reference-same, evidence-same}
 
 gap-is : (c : BlockClass) → isClass Gap c ≡ true → c ≡ Gap

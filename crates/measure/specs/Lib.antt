@@ -1,4 +1,4 @@
--- What the contracts of `measure` cite.
+-- What the contracts of `measure` cite; Agree, what the theorems on two runs do.
 pub mod Powers
 pub mod Left
 pub mod Residual
@@ -10,3 +10,4 @@ pub mod Offset
 pub mod Evidence
 pub mod Hypothesis
 pub mod Both
+pub mod Agree

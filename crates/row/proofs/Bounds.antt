@@ -10,7 +10,7 @@ use native.Mathlib.Nat.{suc-mul}
 use native.Mathlib.Omega.{arith}
 use lib.Dec.{T, lit≤}
 use lib.ListN.{length, getD}
-use lib.Ieee.{Float, nan, inf, fin, binary32, fits}
+use lib.Ieee.{Float, nan, inf, fin}
 use lib.Ieee.Scale.{finite}
 use Rattle.float.specs.Ops.{_⊘_}
 use Rattle.float.proofs.Bounds.{bounded-single, beyond-eight}
@@ -20,7 +20,7 @@ use Rattle.complex.specs.declared.value.Complex.{Complex}
 use Rattle.complex.specs.Rows.{zAt}
 use Rattle.complex.proofs.Bounds.{CBounded, cbounded-more, cbounded-add, cbounded-sub, cbounded-mul, cbounded-conj, cbounded-div, cbounded-sum, cbounded-mean, norm-amount}
 use Rattle.float.specs.Size.{finiteF}
-use Rattle.row.specs.Samples.{Iq}
+use Rattle.row.specs.Samples.{Singles, Iq}
 use Rattle.row.specs.Window.{stepOf, blocks}
 use Rattle.row.specs.Blocks.{rotorOf, derot, meanFrom, blockMean}
 use Rattle.row.specs.Envelope.{runningSum, amplitude, rowOf, rowLength}
@@ -46,10 +46,6 @@ run-bounded {k} {b} z (suc i) each h g =
     (omega arith) g)
 
 -- ---- the recording
-
--- every number fits an f32: what a `&[f32]` lends
-abbrev pub Singles : List Float → Type 0
-Singles l = (k : ℕ) → T (fits binary32 (getD l k nan))
 
 finite-is : (x : Float) → finiteF x ≡ true → T (finite x)
 unfolding finiteF

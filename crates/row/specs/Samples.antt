@@ -4,10 +4,15 @@ use Prim.Native.Nat.{ℕ, _≤_}
 use mathlib.Core.Path.{_≡_}
 use mathlib.Core.Bool.{Bool, true}
 use mathlib.Core.List.{List}
+use lib.Dec.{T}
 use lib.ListN.{length, getD}
-use lib.Ieee.{Float, nan}
+use lib.Ieee.{Float, nan, binary32, fits}
 use Rattle.lists.specs.Every.{every}
 use Rattle.float.specs.Size.{finiteF}
+
+-- Every number fits an f32, as those of every slice of f32 do. Past the end of the list it is the NaN, which fits too.
+abbrev pub Singles : List Float → Type 0
+Singles l = (k : ℕ) → T (fits binary32 (getD l k nan))
 
 -- the first n numbers are finite
 unfoldable pub finiteTo : List Float → ℕ → Bool

@@ -5,7 +5,6 @@ use native.Mathlib.Omega.{arith}
 use mathlib.Core.Path.{_≡_, refl, ap, _∙_}
 use mathlib.Core.List.{List, [], _∷_, map}
 use lib.Ieee.{Float}
-use Rattle.complex.specs.declared.value.Complex.{Complex}
 use Rattle.complex.specs.Value.{cMul}
 use Rattle.complex.specs.Rows.{zAt}
 use Rattle.row.specs.Window.{samples}
@@ -14,18 +13,8 @@ use Rattle.fits.specs.declared.fit.ElementFit.{ElementFit}
 use Rattle.synth.specs.Span.{spanOf}
 use Rattle.synth.specs.Baseband.{envelopeOf, synthAt}
 use Rattle.synth.specs.Removal.{lessSingle, sentAt, takenBy, subtracted}
+use Rattle.synth.specs.RustFields.{rustOf}
 use Rattle.synth.proofs.Parts.{zFill-cong}
-
--- the Rust's ElementFit
-pub record RustFit : Type 0 where
-  pub start : Float
-  pub end : Float
-  pub gain : Complex
-  pub slope : Float
-  pub reference : Float
-
-abbrev pub rustOf : ElementFit → RustFit
-rustOf f = record { start = f .element .start; end = f .element .end; gain = f .gain; slope = f .«slope_rad_per_sample»; reference = f .«ref_sample» }
 
 module _ (fs : Float) (f g : ElementFit) (same : rustOf f ≡ rustOf g) where
   pub span-alike : (n : ℕ) → spanOf fs n f ≡ spanOf fs n g

@@ -14,5 +14,4 @@ pub use circle::sin_cos;
 pub use consts::PI;
 pub use consts::TAU;
 pub use logarithm::log10;
-pub use table::SINE;
 pub use table::sine_table;

@@ -9,7 +9,7 @@ done-requires : tie.Need-done-requires
 done-requires c κs =
     let told = c .before .before in
     let asked = told .before .before .before .before .before in
-    let counts = estimate-counts _ _ _ _ _ _ _ (rw (told .e .given .1) at (asked .estimate-strong .ensures)) in
+    let counts = estimate-counts _ _ _ _ _ _ _ (rw (told .e .given .1) at (asked .estimate-strong .ensures .0)) in
     let kept = asked .estimate-strong .kept in
     (counts .0, omega arith)
 

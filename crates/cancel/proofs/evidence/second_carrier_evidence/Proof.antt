@@ -2,11 +2,10 @@
 -- work
 -- below measures. Assumes nothing.
 use native.Mathlib.Omega.{arith}
-use mathlib.Core.Path.{_≡_, refl, sym, _∙_}
+use mathlib.Core.Path.{_≡_, sym, _∙_}
 use denote.Ref.{now}
 use lib.ListN.{length}
 use borrow.Author.Needs.{needs}
-use Rattle.trig.specs.Sine.{sineTable}
 use Rattle.cancel.specs.Questions.{firstNo}
 use Rattle.cancel.specs.Evidence.{evidenceQuestions, evidenceRule}
 use Rattle.cancel.proofs.Accepted.{refuses, accepts}
@@ -23,13 +22,13 @@ all-yes : (c : tie.Else1) →
 all-yes c = sym (c .before .evidence-no .ensures) ∙ c .if1 .left
 
 second-carrier-evidence-requires : tie.Need-second-carrier-evidence-requires
-unfolding sineTable
 second-carrier-evidence-requires c κs =
-    let s = c .before .before .before .before .before .before .before .before in
+    let made = c .before .before in
+    let s = made .before .before .before .before .before .before .before in
     let known =
     evidence-accepted (now (s .args .iq)) (s .args .fs) (s .args .carrier-hz) (s .args .carrier-step-hz) (now (s .args .elements)) (s .args .element-count) (now (s .args .fits)) (s .args .fit-count) (length (now (s .args .work)))
-    (all-yes (c .before .before)) in
-    (known .iq-ok, (known .rate-ok, (refl, (known .element-room, (known .fit-room, known .room)))))
+    (all-yes (made .before)) in
+    (known .iq-ok, (known .rate-ok, (made .sine-table .ensures, (known .element-room, (known .fit-room, known .room)))))
 
 returns : tie.Need-returns
 unfolding evidenceRule
@@ -39,9 +38,9 @@ returns-2 : tie.Need-returns-2
 unfolding evidenceRule
 returns-2 c =
     let measured = c .before .before in
-    let asked = measured .before .before .before in
+    let asked = measured .before .before .before .before in
     accepts _ _ _ _ _ (asked .before .evidence-no .ensures) (asked .if1 .left) (evidence-result _ _ _ _ (measured .second-carrier-evidence .ensures) (omega arith))
 
 pub second-carrier-evidence-spec : {M : Type 1} → statement M
 second-carrier-evidence-spec =
-    tie.close (tie.spec (λ c κs. search needs) returns second-carrier-evidence-requires (λ c. search needs) returns-2)
+    tie.close (tie.spec (λ c κs. search needs) returns (λ c κs. search needs) second-carrier-evidence-requires (λ c. search needs) returns-2)

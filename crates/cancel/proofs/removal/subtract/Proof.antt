@@ -1,9 +1,8 @@
 -- `cancel::subtract` meets its contract: the first no is the answer, and where there is none, what the work below
 -- leaves. Assumes nothing.
-use mathlib.Core.Path.{_≡_, refl, sym, _∙_}
+use mathlib.Core.Path.{_≡_, sym, _∙_}
 use denote.Ref.{now}
 use borrow.Author.Needs.{needs}
-use Rattle.trig.specs.Sine.{sineTable}
 use Rattle.cancel.specs.Questions.{firstNo}
 use Rattle.cancel.specs.Removal.{subtractQuestions, subtractRule}
 use Rattle.cancel.proofs.Accepted.{refuses, accepts}
@@ -20,13 +19,13 @@ all-yes : (c : tie.Else1) →
 all-yes c = sym (c .before .subtract-no .ensures) ∙ c .if1 .left
 
 subtract-requires : tie.Need-subtract-requires
-unfolding sineTable
 subtract-requires c κs =
-    let s = c .before .before .before .before .before .before .before .before in
+    let made = c .before .before in
+    let s = made .before .before .before .before .before .before .before in
     let known =
     subtract-accepted (now (s .args .buf)) (s .args .fs) (s .args .carrier-hz) (s .args .carrier-step-hz) (now (s .args .elements)) (s .args .element-count) (now (s .args .fits)) (s .args .fit-count)
-    (all-yes (c .before .before)) in
-    (known .short, (known .fit-room, refl))
+    (all-yes (made .before)) in
+    (known .short, (known .fit-room, made .sine-table .ensures))
 
 returns : tie.Need-returns
 unfolding subtractRule
@@ -36,8 +35,8 @@ returns-2 : tie.Need-returns-2
 unfolding subtractRule
 returns-2 c =
     let done = c .before .before in
-    let asked = done .before .before .before in
+    let asked = done .before .before .before .before in
     accepts _ _ _ _ _ (asked .before .subtract-no .ensures) (asked .if1 .left) (done .subtract .ensures)
 
 pub subtract-spec : {M : Type 1} → statement M
-subtract-spec = tie.close (tie.spec (λ c κs. search needs) (λ c. search needs) returns subtract-requires (λ c. search needs) returns-2)
+subtract-spec = tie.close (tie.spec (λ c κs. search needs) (λ c. search needs) returns (λ c κs. search needs) subtract-requires (λ c. search needs) returns-2)

@@ -1,11 +1,10 @@
 -- `cancel::residual_check` meets its contract: the first no is the answer, and where there is none, what the work
 -- below measures. Assumes nothing.
 use native.Mathlib.Omega.{arith}
-use mathlib.Core.Path.{_≡_, refl, sym, _∙_}
+use mathlib.Core.Path.{_≡_, sym, _∙_}
 use denote.Ref.{now}
 use lib.ListN.{length}
 use borrow.Author.Needs.{needs}
-use Rattle.trig.specs.Sine.{sineTable}
 use Rattle.cancel.specs.Questions.{firstNo}
 use Rattle.cancel.specs.Residual.{residualQuestions, residualRule}
 use Rattle.cancel.proofs.Accepted.{refuses, accepts}
@@ -22,13 +21,13 @@ all-yes : (c : tie.Else1) →
 all-yes c = sym (c .before .residual-no .ensures) ∙ c .if1 .left
 
 residual-check-requires : tie.Need-residual-check-requires
-unfolding sineTable
 residual-check-requires c κs =
-    let s = c .before .before .before .before .before .before .before .before in
+    let made = c .before .before in
+    let s = made .before .before .before .before .before .before .before in
     let known =
     residual-accepted (now (s .args .iq)) (s .args .fs) (s .args .carrier-hz) (s .args .carrier-step-hz) (now (s .args .elements)) (s .args .element-count) (now (s .args .fits)) (s .args .fit-count) (length (now (s .args .work)))
-    (all-yes (c .before .before)) in
-    (known .iq-ok, (known .rate-ok, (refl, (known .element-room, (known .fit-room, known .room)))))
+    (all-yes (made .before)) in
+    (known .iq-ok, (known .rate-ok, (made .sine-table .ensures, (known .element-room, (known .fit-room, known .room)))))
 
 returns : tie.Need-returns
 unfolding residualRule
@@ -38,9 +37,9 @@ returns-2 : tie.Need-returns-2
 unfolding residualRule
 returns-2 c =
     let measured = c .before .before in
-    let asked = measured .before .before .before in
+    let asked = measured .before .before .before .before in
     accepts _ _ _ _ _ (asked .before .residual-no .ensures) (asked .if1 .left) (residual-result _ _ _ _ (measured .residual-check .ensures) (omega arith))
 
 pub residual-check-spec : {M : Type 1} → statement M
 residual-check-spec =
-    tie.close (tie.spec (λ c κs. search needs) returns residual-check-requires (λ c. search needs) returns-2)
+    tie.close (tie.spec (λ c κs. search needs) returns (λ c κs. search needs) residual-check-requires (λ c. search needs) returns-2)

@@ -10,7 +10,7 @@ returns : tie.Need-returns
 unfolding estimateCall
 returns c =
     let asked = c .before .before .before .before .before .before .before .before .before in
-    let answered = (rw (c .before .no .given .1) at (asked .estimate-strong .ensures)) in
+    let answered = (rw (c .before .no .given .1) at (asked .estimate-strong .ensures .0)) in
     refused-call estimateTold _ _ _ _ _ answered (estimate-refused _ _ _ _ _ _ _ _ answered)
 
 returns-2 : tie.Need-returns-2
@@ -18,7 +18,7 @@ unfolding estimateCall
 returns-2 c =
     let told = c .before .before .before .before .before .before .before in
     let asked = told .before .before .before .before .before .before .before .before .before in
-    let answered = (rw (told .before .e .given .1) at (asked .estimate-strong .ensures)) in
+    let answered = (rw (told .before .e .given .1) at (asked .estimate-strong .ensures .0)) in
     done-call estimateTold _ _ _ _ _ answered
     (estimate-told _ _ _ _ _ _ (estimate-done _ _ _ _ _ _ _ answered .1)
     (rw (c .before .before .before .before .before .nearest-u64-to-f64 .ensures, c .before .before .before .before .nearest-u64-to-f642 .ensures, c .before .before .before .nearest-u64-to-f643 .ensures, c .before .before .nearest-u64-to-f644 .ensures, c .before .nearest-u64-to-f645 .ensures)))

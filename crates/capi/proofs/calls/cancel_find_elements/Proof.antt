@@ -10,7 +10,7 @@ returns : tie.Need-returns
 unfolding findCall
 returns c =
     let asked = c .before .before .before .before .before .before .before in
-    let answered = (rw (c .before .no .given .1) at (asked .find-elements .ensures)) in
+    let answered = (rw (c .before .no .given .1) at (asked .find-elements .ensures .0)) in
     refused-call findTold _ _ _ _ _ answered (find-refused _ _ _ _ _ _ _ answered)
 
 returns-2 : tie.Need-returns-2
@@ -18,7 +18,7 @@ unfolding findCall
 returns-2 c =
     let told = c .before .before .before .before .before in
     let asked = told .before .before .before .before .before .before .before in
-    let answered = (rw (told .before .f .given .1) at (asked .find-elements .ensures)) in
+    let answered = (rw (told .before .f .given .1) at (asked .find-elements .ensures .0)) in
     done-call findTold _ _ _ _ _ answered
     (find-told _ _ _ _ _ (find-done _ _ _ _ _ _ answered .1)
     (rw (c .before .before .before .before .nearest-u64-to-f64 .ensures, c .before .before .before .nearest-u64-to-f642 .ensures, c .before .before .nearest-u64-to-f643 .ensures, c .before .nearest-u64-to-f644 .ensures)))

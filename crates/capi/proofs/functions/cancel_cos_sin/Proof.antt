@@ -1,13 +1,11 @@
 -- `capi::functions::cancel_cos_sin` meets its contract. Assumes nothing.
-use mathlib.Core.Path.{refl, _∙_}
+use mathlib.Core.Path.{_∙_}
 use borrow.Author.Needs.{needs}
-use Rattle.trig.specs.Sine.{sineTable}
 use Rattle.capi.proofs.functions.cancel_cos_sin.Statement.{statement}
 use Rattle.capi.proofs.functions.cancel_cos_sin.Tie as tie
 
 units-requires : tie.Need-units-requires
-unfolding sineTable
-units-requires c κs = let short = c .before .before .shorter .ensures in (refl, (short .0, short .1))
+units-requires c κs = let made = c .before .before in (made .before .sine-table .ensures, (made .shorter .ensures .0, made .shorter .ensures .1))
 
 returns : tie.Need-returns
 returns c =
@@ -15,4 +13,4 @@ returns c =
     (short .2, c .before .before .units .ensures ∙ rw (short .2))
 
 pub cancel-cos-sin-spec : {M : Type 1} → statement M
-cancel-cos-sin-spec = tie.close (tie.spec (λ c κs. search needs) units-requires (λ c. search needs) returns)
+cancel-cos-sin-spec = tie.close (tie.spec (λ c κs. search needs) (λ c κs. search needs) units-requires (λ c. search needs) returns)
