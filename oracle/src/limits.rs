@@ -1,13 +1,15 @@
 //! The limits, compared in every run: small recordings around every window, every change of step, each question's edge,
-//! the largest counts, evidence at every limit of a hypothesis; and recordings of 2^20 samples. Each scene is handed to
-//! `ask` in turn, and the first error ends it.
+//! the largest counts, hard estimates, samples of every size, evidence at every limit of a hypothesis, runs about each
+//! condition; and recordings of 2^20 samples. Each scene is handed to `ask` in turn, and the first error ends it.
 
 use crate::by_stand_ins::way_in::edge_window;
-use crate::noes;
+use crate::by_stand_ins::{MAX_CARRIER_STEP_HZ, MIN_ELEMENTS};
+use crate::calls::call;
 use crate::random::Random;
-use crate::recordings::{change_of_step, on_off};
+use crate::recordings::{change_of_step, on_off, sent, Aim};
 use crate::scene::{Evidence, Given, Recording, Scene};
 use crate::signals::{real, senders, Sender};
+use crate::{given, noes};
 
 /// What is done with a scene.
 pub type Ask<'a, E> = &'a mut dyn FnMut(&Scene) -> Result<(), E>;
@@ -19,7 +21,7 @@ pub type Limit<E> = (&'static str, fn(&mut Random, Ask<E>) -> Result<(), E>);
 pub const LONGEST: usize = 1 << 20;
 
 /// All that are cheap.
-pub fn limits<E>() -> [Limit<E>; 9] {
+pub fn limits<E>() -> [Limit<E>; 12] {
     [
         ("n around every window", windows),
         ("rates around every change of step", changes_of_step),
@@ -29,6 +31,9 @@ pub fn limits<E>() -> [Limit<E>; 9] {
         ("largest counts", largest_counts),
         ("blocks at the rim", rims),
         ("lists with nothing in them", no_lists),
+        ("fits that overlap, lie outside or are huge", hard_fits),
+        ("samples of every size", sizes),
+        ("runs about each condition", conditions),
         ("hypotheses at their limits", |r, ask| hypotheses(4_000, r, ask)),
     ]
 }
@@ -151,6 +156,81 @@ fn no_lists<E>(r: &mut Random, ask: Ask<E>) -> Result<(), E> {
         }
     }
     Ok(())
+}
+
+/// Two senders with estimates whose fits overlap, lie outside of the recording, or have numbers of the largest size.
+/// The last samples belong to no block.
+fn hard_fits<E>(r: &mut Random, ask: Ask<E>) -> Result<(), E> {
+    for fs in [3_000.0, 7_654.3] {
+        let both = [Sender::keyed(100.0, 1.0, 0.05), Sender::keyed(140.0, 0.3, 0.07)];
+        let n = fs as usize / 64 * 64 + 13;
+        let rec = Recording { what: "hard fits".into(), fs, iq: senders(n, fs, &both, 0.01, r), hint_hz: 100.0 };
+        for (what, given) in given::hard(&rec) {
+            let rec = Recording { what: format!("hard fits: {what}"), ..rec.clone() };
+            ask(&Scene::new(rec, given, r))?;
+        }
+    }
+    Ok(())
+}
+
+/// Two senders whose strong one is of each size that an f32 can have, from the least number above 0 to the largest.
+fn sizes<E>(r: &mut Random, ask: Ask<E>) -> Result<(), E> {
+    let fs = 3_000.0;
+    let both = [Sender::keyed(60.0, 1.0, 0.05), Sender::keyed(100.0, 0.3, 0.07)];
+    let iq = senders(6_000, fs, &both, 0.001, r);
+    let most = iq.iter().fold(0.0, |a: f64, &x| a.max(x.abs() as f64));
+    for power in (-149..=127).step_by(12).chain([126, 127]) {
+        let scale = 2f64.powi(power) / most;
+        let iq = iq.iter().map(|&x| (x as f64 * scale) as f32).collect();
+        ask(&Scene::own(Recording { what: format!("samples of size 2^{power}"), fs, iq, hint_hz: 60.0 }, r))?;
+    }
+    let iq = iq.iter().map(|&x| if x < 0.0 { f32::MIN } else { f32::MAX }).collect();
+    ask(&Scene::own(Recording { what: "largest samples".into(), fs, iq, hint_hz: 60.0 }, r))
+}
+
+/// Runs of two senders that would be taken, with just as many fits as are needed, one fewer and one more; and with
+/// hints about as far off as the carrier may step.
+fn conditions<E>(r: &mut Random, ask: Ask<E>) -> Result<(), E> {
+    let rec = taken(r);
+    let own = Given::own(&rec);
+    for shorter in prefixes(&rec) {
+        let given = Given::own(&shorter);
+        if given.fit_count.abs_diff(MIN_ELEMENTS) <= 1 {
+            ask(&Scene { only: &["cancel_run"], ..Scene::least(shorter, given) })?;
+        }
+    }
+    for away in [0.99, 0.999, 1.0, 1.001, 1.01, 1.2] {
+        for side in [-1.0, 1.0] {
+            let hint_hz = own.carrier_hz + side * away * MAX_CARRIER_STEP_HZ;
+            let what = format!("{}, hint {away} of the largest step away", rec.what);
+            let rec = Recording { what, hint_hz, ..rec.clone() };
+            ask(&Scene { only: &["cancel_run"], ..Scene::least(rec, own.clone()) })?;
+        }
+    }
+    Ok(())
+}
+
+/// A short recording that a run takes.
+fn taken(r: &mut Random) -> Recording {
+    loop {
+        let rec = sent(Aim::Neighbour, r);
+        let small = rec.iq.len() < 40_000 && rec.hint_hz.abs() + 2.0 * MAX_CARRIER_STEP_HZ < rec.fs / 2.0;
+        let scene = Scene::least(rec, Given::default());
+        if small && call("cancel_run").outcome(&scene).is_ok_and(|run| run.kinds.contains(&"taken")) {
+            return scene.recording;
+        }
+    }
+}
+
+/// The recording cut short, from a quarter of it on, every 15 ms.
+fn prefixes(rec: &Recording) -> impl Iterator<Item = Recording> + '_ {
+    let n = rec.iq.len() / 2;
+    let cut = |n: usize| Recording {
+        what: format!("{}, cut to {n} samples", rec.what),
+        iq: rec.iq[..2 * n].to_vec(),
+        ..rec.clone()
+    };
+    (n / 4..n).step_by((0.015 * rec.fs) as usize).map(cut)
 }
 
 /// Evidence about the limits of each hypothesis.
