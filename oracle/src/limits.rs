@@ -21,7 +21,7 @@ pub type Limit<E> = (&'static str, fn(&mut Random, Ask<E>) -> Result<(), E>);
 pub const LONGEST: usize = 1 << 20;
 
 /// All that are cheap.
-pub fn limits<E>() -> [Limit<E>; 12] {
+pub fn limits<E>() -> [Limit<E>; 13] {
     [
         ("n around every window", windows),
         ("rates around every change of step", changes_of_step),
@@ -33,6 +33,7 @@ pub fn limits<E>() -> [Limit<E>; 12] {
         ("lists with nothing in them", no_lists),
         ("fits that overlap, lie outside or are huge", hard_fits),
         ("samples of every size", sizes),
+        ("pairs of gap blocks", pairs),
         ("runs about each condition", conditions),
         ("hypotheses at their limits", |r, ask| hypotheses(4_000, r, ask)),
     ]
@@ -188,17 +189,32 @@ fn sizes<E>(r: &mut Random, ask: Ask<E>) -> Result<(), E> {
     ask(&Scene::own(Recording { what: "largest samples".into(), fs, iq, hint_hz: 60.0 }, r))
 }
 
+/// A strong sender with a burst of some blocks in a gap: none, one or several pairs. A burst of one sample a block
+/// is as strong at each of the three offsets that are asked, where the first has to win.
+fn pairs<E>(r: &mut Random, ask: Ask<E>) -> Result<(), E> {
+    let fs = 3_000.0;
+    let (window, _) = edge_window(fs);
+    let strong = |k: usize| (1_000..1_400).contains(&k) || (1_800..2_200).contains(&k);
+    let from = 188 * window;
+    for blocks in [0, 1, 2, 3, 4, 10] {
+        let in_burst = |k: usize| (from..from + blocks * window).contains(&k);
+        let tone = |k: usize| 0.2 * (((k - from) % 12) as f32 / 6.0 - 1.0);
+        let single = |k: usize| if k % window == 0 { 0.5 } else { 0.0 };
+        for (what, burst) in [("tone", &tone as &dyn Fn(usize) -> f32), ("single samples", &single)] {
+            let iq = real(3_000, |k| strong(k) as u8 as f32 + if in_burst(k) { burst(k) } else { 0.0 });
+            let what = format!("a burst of {blocks} blocks, {what}");
+            ask(&Scene::own(Recording { what, fs, iq, hint_hz: 0.0 }, r))?;
+        }
+    }
+    Ok(())
+}
+
 /// Runs of two senders that would be taken, with just as many fits as are needed, one fewer and one more; and with
 /// hints about as far off as the carrier may step.
 fn conditions<E>(r: &mut Random, ask: Ask<E>) -> Result<(), E> {
-    let rec = taken(r);
+    let (rec, shorter) = few_fits(r);
+    shorter.iter().try_for_each(&mut *ask)?;
     let own = Given::own(&rec);
-    for shorter in prefixes(&rec) {
-        let given = Given::own(&shorter);
-        if given.fit_count.abs_diff(MIN_ELEMENTS) <= 1 {
-            ask(&Scene { only: &["cancel_run"], ..Scene::least(shorter, given) })?;
-        }
-    }
     for away in [0.99, 0.999, 1.0, 1.001, 1.01, 1.2] {
         for side in [-1.0, 1.0] {
             let hint_hz = own.carrier_hz + side * away * MAX_CARRIER_STEP_HZ;
@@ -210,14 +226,22 @@ fn conditions<E>(r: &mut Random, ask: Ask<E>) -> Result<(), E> {
     Ok(())
 }
 
-/// A short recording that a run takes.
-fn taken(r: &mut Random) -> Recording {
+/// A recording that a run takes, and it cut short to just as many fits as are needed, one fewer and one more; with just
+/// as many it is taken still.
+fn few_fits(r: &mut Random) -> (Recording, Vec<Scene>) {
+    let only = &["cancel_run"];
+    let taken = |s: &Scene| call("cancel_run").outcome(s).is_ok_and(|run| run.kinds.contains(&"taken"));
     loop {
         let rec = sent(Aim::Neighbour, r);
         let small = rec.iq.len() < 40_000 && rec.hint_hz.abs() + 2.0 * MAX_CARRIER_STEP_HZ < rec.fs / 2.0;
-        let scene = Scene::least(rec, Given::default());
-        if small && call("cancel_run").outcome(&scene).is_ok_and(|run| run.kinds.contains(&"taken")) {
-            return scene.recording;
+        if !small || !taken(&Scene::least(rec.clone(), Given::default())) {
+            continue;
+        }
+        let given = prefixes(&rec).map(|shorter| (Given::own(&shorter), shorter));
+        let about = given.filter(|(given, _)| given.fit_count.abs_diff(MIN_ELEMENTS) <= 1);
+        let all: Vec<Scene> = about.map(|(given, rec)| Scene { only, ..Scene::least(rec, given) }).collect();
+        if all.iter().any(|s| s.given.fit_count == MIN_ELEMENTS && taken(s)) {
+            return (rec, all);
         }
     }
 }
