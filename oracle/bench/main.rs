@@ -18,9 +18,16 @@ use oracle::scene::{Recording, Scene};
 use oracle::signals::{real, senders, Sender};
 use std::hint::black_box;
 use std::process::ExitCode;
-use table::{head, line, RUST};
+use table::{head, line, RUST, UNIT};
 
 const HINT_HZ: f64 = 300.0;
+
+/// Rates of the longest recordings: at the first a step is one sample, at the last 64.
+const RATES: [f64; 3] = [3_000.0, 96_000.0, 192_000.0];
+
+/// The samples of a short recording, and how many rounds of it are made for one of a long one.
+const SHORT: usize = 2_048;
+const SHORT_ROUNDS: usize = 50;
 
 fn main() -> ExitCode {
     let words: Vec<String> = std::env::args().skip(1).collect();
@@ -48,9 +55,10 @@ fn main() -> ExitCode {
 
 fn all(rounds: usize) {
     numbers::print(100 * rounds);
-    for fs in [3_000.0, 96_000.0, 192_000.0] {
-        at_rate(fs, rounds);
+    for fs in RATES {
+        stages(LONGEST, fs, rounds);
     }
+    stages(SHORT, 3_000.0, SHORT_ROUNDS * rounds);
     lengths(rounds);
     rows(rounds);
 }
@@ -126,15 +134,14 @@ fn again<'a>(buffer: &'a mut [Complex32], samples: &[Complex32]) -> &'a mut [Com
     buffer
 }
 
-/// Every call on the longest recording of a strong sender, its neighbour and some noise at this rate.
-fn at_rate(fs: f64, rounds: usize) {
-    let iq = two_senders(LONGEST, fs);
+/// Every stage by itself and the whole run, on so many samples of a strong sender, its neighbour and some noise.
+fn stages(n: usize, fs: f64, rounds: usize) {
+    let iq = two_senders(n, fs);
     let samples = &records::samples(&iq)[..];
     let scene = Scene::own(Recording { what: "2 senders".into(), fs, iq, hint_hz: HINT_HZ }, &mut Random::new(1));
-    println!(
-        "2^20 samples at {fs} a second, {} elements: ns a sample, least of {rounds} rounds",
-        scene.given.element_count
-    );
+    let (elements, fits) = (scene.given.element_count, scene.given.fit_count);
+    let became = if oracle::by_stand_ins::way_in::run(&mut samples.to_vec(), fs, HINT_HZ) { "taken" } else { "kept" };
+    println!("{n} samples at {fs} a second, {elements} elements, {fits} fits, {became}: {UNIT}{rounds} rounds");
     head("", &["library", RUST[0], RUST[1]]);
     let est = &(
         oracle::by_platform::estimate_strong(samples, fs, HINT_HZ),
@@ -168,34 +175,42 @@ fn two_senders(n: usize, fs: f64) -> Vec<f32> {
     senders(n, fs, &both, 0.001, &mut Random::new(1))
 }
 
-/// Find beside both Rusts on one recording at 3,000 a second.
-fn find(what: &str, iq: Vec<f32>, hint_hz: f64, rounds: usize) {
-    const FS: f64 = 3_000.0;
+/// Find and run beside both Rusts on one recording.
+fn find_and_run(what: &str, iq: Vec<f32>, fs: f64, hint_hz: f64, rounds: usize) {
     let samples = &records::samples(&iq)[..];
-    let scene = Scene::least(Recording { what: what.into(), fs: FS, iq, hint_hz }, Default::default());
-    let rust = either!(rust, _e in ((), ()), rust::find_elements(samples, FS, hint_hz));
-    timed(what, "cancel_find_elements", &scene, rounds, rust);
+    let scene = Scene::least(Recording { what: what.into(), fs, iq, hint_hz }, Default::default());
+    let found = either!(rust, _e in ((), ()), rust::find_elements(samples, fs, hint_hz));
+    timed(&format!("find, {what}"), "cancel_find_elements", &scene, rounds, found);
+    let ran = either!(rust, _e in ((), ()), buf = samples, rust::way_in::run(buf, fs, hint_hz));
+    timed(&format!("run, {what}"), "cancel_run", &scene, rounds, ran);
 }
 
-/// Does find's cost grow with the samples alone? At step 1 the row is as long as the recording.
+/// Does the cost grow with the samples alone? At step 1 the row is as long as the recording.
 fn lengths(rounds: usize) {
-    println!("find_elements by length, 3000 a second (step 1): ns a sample, least of {rounds} rounds");
-    head("", &["library", RUST[0], RUST[1]]);
-    for power in [16, 18, 20] {
-        find(&format!("2^{power} samples"), two_senders(1 << power, 3_000.0), HINT_HZ, rounds);
+    for fs in RATES {
+        println!("By length, {fs} a second: {UNIT}{rounds} rounds");
+        head("", &["library", RUST[0], RUST[1]]);
+        for power in [16, 18, 20] {
+            find_and_run(&format!("2^{power} samples"), two_senders(1 << power, fs), fs, HINT_HZ, rounds);
+        }
+        println!();
     }
-    println!();
 }
 
-/// Rows that are hard on a selection.
+/// Rows that are hard on a selection: where all values are equal, none is told from the others before the last digit;
+/// where they are sorted, a sort is done at once.
 fn rows(rounds: usize) {
-    println!("find_elements by row, 2^20 samples, 3000 a second (step 1): ns a sample, least of {rounds} rounds");
+    let fs = RATES[0];
+    println!("By row, 2^20 samples, {fs} a second (step 1): {UNIT}{rounds} rounds");
     head("", &["library", RUST[0], RUST[1]]);
     let rising = |k: usize| k as f32 / LONGEST as f32;
-    find("zero", real(LONGEST, |_| 0.0), 0.0, rounds);
-    find("equal", real(LONGEST, |_| 1.0), 0.0, rounds);
-    find("rising", real(LONGEST, rising), 0.0, rounds);
-    find("falling", real(LONGEST, |k| 1.0 - rising(k)), 0.0, rounds);
-    find("alternating", real(LONGEST, |k| if k / 8 % 2 == 0 { 1.0 } else { 0.25 }), 0.0, rounds);
+    let mut row = |what, iq| find_and_run(what, iq, fs, 0.0, rounds);
+    row("zero", real(LONGEST, |_| 0.0));
+    row("equal", real(LONGEST, |_| 1.0));
+    row("rising", real(LONGEST, rising));
+    row("falling", real(LONGEST, |k| 1.0 - rising(k)));
+    row("alternating", real(LONGEST, |k| if k / 8 % 2 == 0 { 1.0 } else { 0.25 }));
+    // Amplitudes that differ in their last bits alone: every pass of a selection is needed.
+    row("nearly equal", real(LONGEST, |k| f32::from_bits(1f32.to_bits() + (k as u32).wrapping_mul(2_654_435_761) % 8)));
     println!();
 }

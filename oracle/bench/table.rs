@@ -3,6 +3,9 @@
 /// The two Rusts that the library stands beside.
 pub const RUST: [&str; 2] = ["Rust, platform", "Rust, stand-ins"];
 
+/// What the numbers are, up to how many rounds there were.
+pub const UNIT: &str = "ns a sample, least of ";
+
 pub fn head(what: &str, columns: &[&str]) {
     print!("{what:28}");
     for column in columns {

@@ -2,7 +2,7 @@
 
 use crate::library;
 use crate::tally::Tally;
-use oracle::calls::CALLS;
+use oracle::calls::{Outcome, CALLS};
 use oracle::handed::Handed;
 use oracle::random::Random;
 use oracle::scene::Scene;
@@ -20,6 +20,8 @@ pub type Compared = Result<(), Difference>;
 pub struct Asker {
     pub tally: Tally,
     pub random: Random,
+    /// What the last run that took has left in the buffer.
+    pub left: Option<Vec<f32>>,
 }
 
 impl Asker {
@@ -32,7 +34,15 @@ impl Asker {
             let outcome = call.outcome(scene);
             handed.judge(call, status, &outcome).map_err(|what| Difference { call: call.name, what })?;
             self.tally.equal(call.name, &outcome);
+            if call.name == "cancel_run" {
+                self.left = taken(outcome);
+            }
         }
         Ok(())
     }
+}
+
+/// The buffer of a run that took.
+fn taken(run: Outcome) -> Option<Vec<f32>> {
+    run.ok().filter(|answer| answer.kinds.contains(&"taken")).and_then(|answer| answer.buffer)
 }

@@ -6,16 +6,19 @@
 //! error.
 
 mod ask;
+mod at_once;
 #[path = "../link/library.rs"]
 mod library;
 mod numbers;
+mod receiver;
 mod tally;
 
 use ask::{Asker, Compared, Difference};
 use oracle::limits::{self, Limit};
 use oracle::random::Random;
-use oracle::scene::Scene;
+use oracle::scene::{Recording, Scene};
 use oracle::{given, noes, recordings};
+use receiver::Receiver;
 use std::panic::{catch_unwind, AssertUnwindSafe};
 use std::process::ExitCode;
 use std::time::{Duration, Instant};
@@ -29,18 +32,22 @@ const TOLD: u64 = 10;
 struct Options {
     seconds: u64,
     seed: u64,
+    /// The example programs that are linked with the same library.
+    receivers: Vec<Receiver>,
 }
 
 fn options() -> Result<Options, String> {
-    let mut options = Options { seconds: 30, seed: 1 };
+    let mut options = Options { seconds: 30, seed: 1, receivers: Vec::new() };
     let mut words = std::env::args().skip(1);
     while let Some(word) = words.next() {
-        let value = match word.as_str() {
-            "--seconds" => &mut options.seconds,
-            "--seed" => &mut options.seed,
-            _ => return Err(format!("{word} is not known; --seconds N and --seed S are")),
-        };
-        *value = words.next().and_then(|v| v.parse().ok()).ok_or(format!("{word}: a whole number is to follow"))?;
+        let value = words.next().ok_or(format!("{word}: a value is to follow"))?;
+        let whole = || value.parse().map_err(|_| format!("{word}: a whole number is to follow"));
+        match word.as_str() {
+            "--seconds" => options.seconds = whole()?,
+            "--seed" => options.seed = whole()?,
+            "--receiver" => options.receivers.push(Receiver::new(&value)),
+            _ => return Err(format!("{word} is not known; --seconds N, --seed S and --receiver PROGRAM are")),
+        }
     }
     Ok(options)
 }
@@ -61,7 +68,7 @@ fn main() -> ExitCode {
         eprintln!("compare: not declared in oracle/src/calls.rs: {}", library::undeclared().join(", "));
         return ExitCode::from(2);
     }
-    let mut asker = Asker { tally: Default::default(), random: Random::new(options.seed) };
+    let mut asker = Asker { tally: Default::default(), random: Random::new(options.seed), left: None };
     let (cases, found) = compare(&mut asker, &options);
     asker.tally.print(found.as_ref().map(|(_, d)| d.call));
     match found {
@@ -100,6 +107,16 @@ fn compare(asker: &mut Asker, options: &Options) -> (u64, Option<(String, Differ
             return (0, named(difference, &format!("{what}: {last}")));
         }
     }
+    eprintln!("compare: two calls at once");
+    if let Err(difference) = not_stopping(|| at_once::two(seed)) {
+        return (0, named(difference, "two calls at once"));
+    }
+    for receiver in &options.receivers {
+        eprintln!("compare: {}", receiver.name());
+        if let Err(difference) = not_stopping(|| receiver.all(seed, &mut asker.tally)) {
+            return (0, named(difference, receiver.name()));
+        }
+    }
     by_seed(asker, options)
 }
 
@@ -131,7 +148,8 @@ fn not_stopping(compared: impl FnOnce() -> Compared) -> Compared {
     })
 }
 
-/// All calls on one recording, then on what is refused of it; and some numbers. `what` says what was compared last.
+/// All calls on one recording, then on what is refused of it, and on what a run left of it; and some numbers. `what`
+/// says what was compared last.
 fn case(asker: &mut Asker, seed: u64, what: &mut String) -> Compared {
     let mut r = Random::new(seed);
     let recording = recordings::recording(&mut r);
@@ -140,11 +158,26 @@ fn case(asker: &mut Asker, seed: u64, what: &mut String) -> Compared {
     let admitted = Scene::new(recording, given, &mut r);
     let refused = [noes::refused(&admitted, &mut r), noes::refused(&admitted, &mut r)];
     asker.random = r.clone();
-    for scene in [&admitted, &refused[0], &refused[1]] {
+    *what = admitted.recording.described();
+    asker.all(&admitted)?;
+    let left = asker.left.take().map(|iq| again(&admitted, iq, &mut r));
+    for scene in refused.iter().chain(&left) {
         *what = scene.recording.described();
         asker.all(scene)?;
     }
     *what = "numbers".into();
     asker.numbers(200)?;
     limits::hypotheses(20, &mut r, &mut |scene| asker.all(scene))
+}
+
+/// The scene with what a run left, and its own estimate.
+fn again(scene: &Scene, iq: Vec<f32>, r: &mut Random) -> Scene {
+    let what = format!("{}, run again", scene.recording.what);
+    let rec = Recording { what, iq, ..scene.recording.clone() };
+    // A run can leave infinite samples, of which no estimate can be made.
+    if rec.iq.iter().all(|x| x.is_finite()) {
+        Scene::own(rec, r)
+    } else {
+        Scene::new(rec, Default::default(), r)
+    }
 }

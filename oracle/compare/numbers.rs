@@ -2,7 +2,7 @@
 
 use crate::ask::{Asker, Compared, Difference};
 use crate::library;
-use oracle::lent::Bits;
+use oracle::lent::{Bits, Lent, Zone};
 use oracle::questions;
 use oracle::random::Random;
 use oracle::recordings::rate;
@@ -38,6 +38,9 @@ const SPECIAL: [f64; 22] = [
 /// Lengths of recordings that the count of blocks is asked about.
 const LENGTHS: [usize; 10] = [0, 1, 2, 3, 15, 16, 2_097_152, 2_097_153, usize::MAX - 1, usize::MAX];
 
+/// Rates that it is asked about too: the ends, and changes of step.
+const RATES: [f64; 6] = [2_000.0, 3_000.0, 4_500.0, 7_500.0, 190_500.0, 192_000.0];
+
 /// A function by its short name, of the library and of the oracle, on these numbers.
 macro_rules! same {
     ($asker:ident, $oracle:ident::$function:ident($($x:expr),*)) => {
@@ -60,9 +63,11 @@ impl Asker {
                     self.of_two(x, y)?;
                     self.of_two(y, x)?;
                 }
-                for len in LENGTHS {
-                    same!(self, questions::blocks(len, x))?;
-                }
+            }
+        }
+        for fs in SPECIAL.into_iter().chain(RATES).flat_map(|fs| [fs, fs.next_up(), fs.next_down()]) {
+            for len in LENGTHS {
+                same!(self, questions::blocks(len, fs))?;
             }
         }
         Ok(())
@@ -84,6 +89,30 @@ impl Asker {
             let (len, fs) = (self.random.whole(0, 3_000_000), rate(&mut self.random));
             same!(self, questions::blocks(len, fs))?;
         }
+        self.angles()
+    }
+
+    /// Some angles at once, with room for fewer, as many or more, and between guards.
+    fn angles(&mut self) -> Compared {
+        const CALL: &str = "cancel_cos_sin";
+        if !library::present(CALL) {
+            return Ok(());
+        }
+        let r = &mut self.random;
+        let angles: Vec<f64> = (0..r.whole(0, 12)).map(|_| angle(r)).collect();
+        let mut lent = Lent::holding("angles", &angles, r);
+        let mut out: Lent<f64> = Lent::any("out", r.whole(0, 24), r);
+        let done = library::cos_sin(lent.pointer(), lent.len(), out.pointer(), out.len());
+        let most = angles.len().min(out.len() / 2);
+        let expected: Vec<f64> = angles[..most].iter().flat_map(|&x| [stand_ins::cos(x), stand_ins::sin(x)]).collect();
+        let judged = if done == most {
+            let rest = out.keeps(expected.len(), out.len(), "past the last pair");
+            out.holds(&expected).and(rest).and(out.guarded()).and(lent.untouched("though only read"))
+        } else {
+            Err(format!("library answers {done}, oracle {most}"))
+        };
+        judged.map_err(|what| Difference { call: CALL, what })?;
+        self.tally.equal_number(CALL);
         Ok(())
     }
 

@@ -45,7 +45,11 @@ impl Tally {
     /// One line a call: equal of compared, then how many of each kind. `differing` is the call that ended the
     /// comparison, if one did.
     pub fn print(&self, differing: Option<&str>) {
-        for (call, present) in library::all() {
+        // What is no call of the library comes last.
+        let declared: Vec<_> = library::all().collect();
+        let others = self.rows.iter().map(|(name, _)| (*name, true));
+        let others: Vec<_> = others.filter(|(name, _)| !declared.iter().any(|(call, _)| call == name)).collect();
+        for (call, present) in declared.into_iter().chain(others) {
             let row =
                 self.rows.iter().find(|(name, _)| *name == call).map_or_else(Row::default, |(_, row)| row.clone());
             if !present {
@@ -54,14 +58,19 @@ impl Tally {
             }
             let all = row.compared + (differing == Some(call)) as u64;
             println!("{call:31} {} of {all} equal", row.compared);
-            let (mut refused, kinds): (Vec<_>, Vec<_>) =
-                row.kinds.iter().partition(|(name, _)| name.starts_with(REFUSED));
-            refused.sort();
-            for (name, times) in kinds.into_iter().chain(refused) {
+            let mut kinds = row.kinds.clone();
+            kinds.sort_by_key(|(name, _)| (name.starts_with(REFUSED), place(name), name.clone()));
+            for (name, times) in kinds {
                 println!("{:31} {times:8} {name}", "");
             }
         }
     }
+}
+
+/// Hypotheses come first, then what became of the buffer, then all else.
+fn place(kind: &str) -> usize {
+    let first = ["one", "two", "noncw", "unresolved", "taken", "kept"];
+    first.iter().position(|k| *k == kind).unwrap_or(first.len())
 }
 
 impl Row {

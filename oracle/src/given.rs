@@ -75,6 +75,48 @@ fn made_up(est: &mut Given, rec: &Recording, r: &mut Random) {
     est.carrier_hz = r.between(-1.0, 1.0) * rec.fs;
 }
 
+/// The recording's own estimate with its fits made hard in one way at a time: what was done, and the estimate.
+pub fn hard(rec: &Recording) -> Vec<(&'static str, Given)> {
+    let own = Given::own(rec);
+    let n = (rec.iq.len() / 2) as f64;
+    let each = |what: &'static str, change: &dyn Fn(&mut [f64])| {
+        let mut est = own.clone();
+        est.fits.chunks_exact_mut(FIT).for_each(change);
+        (what, est)
+    };
+    let few = |what: &'static str, change: &dyn Fn(&mut [f64])| {
+        let mut est = own.clone();
+        est.fit_count = est.fit_count.min(3);
+        est.fits.chunks_exact_mut(FIT).take(3).for_each(change);
+        (what, est)
+    };
+    let mut twice = own.clone();
+    twice.fits.extend_from_within(..);
+    twice.fit_count *= 2;
+    let mut backwards = own.clone();
+    backwards.fits = own.fits.rchunks_exact(FIT).flatten().copied().collect();
+    vec![
+        ("each twice", twice),
+        ("from the last to the first", backwards),
+        each("before the recording", &|f| (f[0], f[1]) = (f[0] - n, f[1] - n)),
+        each("after the recording", &|f| (f[0], f[1]) = (f[0] + n, f[1] + n)),
+        each("ending at the last sample", &|f| (f[0], f[1]) = (f[0] - f[1] + n - 1.0, n - 1.0)),
+        each("ending where the blocks end", &|f| f[1] = n - 13.0),
+        each("ended before it starts", &|f| f.swap(0, 1)),
+        each("of no length", &|f| f[1] = f[0]),
+        few("from the least number on", &|f| f[0] = -LARGEST),
+        few("to the largest number", &|f| f[1] = LARGEST),
+        few("from the least to the largest number", &|f| (f[0], f[1]) = (-LARGEST, LARGEST)),
+        few("of the largest gain", &|f| (f[4], f[5]) = (LARGEST, -LARGEST)),
+        few("of the least gain", &|f| (f[4], f[5]) = (5e-324, -0.0)),
+        few("of the largest slope", &|f| f[6] = LARGEST),
+        few("of the largest reference", &|f| f[7] = -LARGEST),
+        few("of the largest slope and reference", &|f| (f[6], f[7]) = (-LARGEST, LARGEST)),
+        ("at the largest carrier", Given { carrier_hz: LARGEST, carrier_step_hz: -LARGEST, ..own.clone() }),
+        ("at a carrier past the rate", Given { carrier_hz: -1.5 * rec.fs, ..own.clone() }),
+    ]
+}
+
 /// Moves an element: overlapping, outside, backwards or huge.
 fn pull_element(record: &mut [f64], rec: &Recording, r: &mut Random) {
     let n = rec.iq.len() as f64 / 2.0;

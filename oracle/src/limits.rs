@@ -1,13 +1,15 @@
 //! The limits, compared in every run: small recordings around every window, every change of step, each question's edge,
-//! the largest counts, evidence at every limit of a hypothesis; and recordings of 2^20 samples. Each scene is handed to
-//! `ask` in turn, and the first error ends it.
+//! the largest counts, hard estimates, samples of every size, evidence at every limit of a hypothesis, runs about each
+//! condition; and recordings of 2^20 samples. Each scene is handed to `ask` in turn, and the first error ends it.
 
 use crate::by_stand_ins::way_in::edge_window;
-use crate::noes;
+use crate::by_stand_ins::{MAX_CARRIER_STEP_HZ, MIN_ELEMENTS};
+use crate::calls::call;
 use crate::random::Random;
-use crate::recordings::{change_of_step, on_off};
+use crate::recordings::{change_of_step, on_off, sent, Aim};
 use crate::scene::{Evidence, Given, Recording, Scene};
 use crate::signals::{real, senders, Sender};
+use crate::{given, noes};
 
 /// What is done with a scene.
 pub type Ask<'a, E> = &'a mut dyn FnMut(&Scene) -> Result<(), E>;
@@ -19,7 +21,7 @@ pub type Limit<E> = (&'static str, fn(&mut Random, Ask<E>) -> Result<(), E>);
 pub const LONGEST: usize = 1 << 20;
 
 /// All that are cheap.
-pub fn limits<E>() -> [Limit<E>; 9] {
+pub fn limits<E>() -> [Limit<E>; 13] {
     [
         ("n around every window", windows),
         ("rates around every change of step", changes_of_step),
@@ -29,6 +31,10 @@ pub fn limits<E>() -> [Limit<E>; 9] {
         ("largest counts", largest_counts),
         ("blocks at the rim", rims),
         ("lists with nothing in them", no_lists),
+        ("fits that overlap, lie outside or are huge", hard_fits),
+        ("samples of every size", sizes),
+        ("pairs of gap blocks", pairs),
+        ("runs about each condition", conditions),
         ("hypotheses at their limits", |r, ask| hypotheses(4_000, r, ask)),
     ]
 }
@@ -151,6 +157,104 @@ fn no_lists<E>(r: &mut Random, ask: Ask<E>) -> Result<(), E> {
         }
     }
     Ok(())
+}
+
+/// Two senders with estimates whose fits overlap, lie outside of the recording, or have numbers of the largest size.
+/// The last samples belong to no block.
+fn hard_fits<E>(r: &mut Random, ask: Ask<E>) -> Result<(), E> {
+    for fs in [3_000.0, 7_654.3] {
+        let both = [Sender::keyed(100.0, 1.0, 0.05), Sender::keyed(140.0, 0.3, 0.07)];
+        let n = fs as usize / 64 * 64 + 13;
+        let rec = Recording { what: "hard fits".into(), fs, iq: senders(n, fs, &both, 0.01, r), hint_hz: 100.0 };
+        for (what, given) in given::hard(&rec) {
+            let rec = Recording { what: format!("hard fits: {what}"), ..rec.clone() };
+            ask(&Scene::new(rec, given, r))?;
+        }
+    }
+    Ok(())
+}
+
+/// Two senders whose strong one is of each size that an f32 can have, from the least number above 0 to the largest.
+fn sizes<E>(r: &mut Random, ask: Ask<E>) -> Result<(), E> {
+    let fs = 3_000.0;
+    let both = [Sender::keyed(60.0, 1.0, 0.05), Sender::keyed(100.0, 0.3, 0.07)];
+    let iq = senders(6_000, fs, &both, 0.001, r);
+    let most = iq.iter().fold(0.0, |a: f64, &x| a.max(x.abs() as f64));
+    for power in (-149..=127).step_by(12).chain([126, 127]) {
+        let scale = 2f64.powi(power) / most;
+        let iq = iq.iter().map(|&x| (x as f64 * scale) as f32).collect();
+        ask(&Scene::own(Recording { what: format!("samples of size 2^{power}"), fs, iq, hint_hz: 60.0 }, r))?;
+    }
+    let iq = iq.iter().map(|&x| if x < 0.0 { f32::MIN } else { f32::MAX }).collect();
+    ask(&Scene::own(Recording { what: "largest samples".into(), fs, iq, hint_hz: 60.0 }, r))
+}
+
+/// A strong sender with a burst of some blocks in a gap: none, one or several pairs. A burst of one sample a block
+/// is as strong at each of the three offsets that are asked, where the first has to win.
+fn pairs<E>(r: &mut Random, ask: Ask<E>) -> Result<(), E> {
+    let fs = 3_000.0;
+    let (window, _) = edge_window(fs);
+    let strong = |k: usize| (1_000..1_400).contains(&k) || (1_800..2_200).contains(&k);
+    let from = 188 * window;
+    for blocks in [0, 1, 2, 3, 4, 10] {
+        let in_burst = |k: usize| (from..from + blocks * window).contains(&k);
+        let tone = |k: usize| 0.2 * (((k - from) % 12) as f32 / 6.0 - 1.0);
+        let single = |k: usize| if k % window == 0 { 0.5 } else { 0.0 };
+        for (what, burst) in [("tone", &tone as &dyn Fn(usize) -> f32), ("single samples", &single)] {
+            let iq = real(3_000, |k| strong(k) as u8 as f32 + if in_burst(k) { burst(k) } else { 0.0 });
+            let what = format!("a burst of {blocks} blocks, {what}");
+            ask(&Scene::own(Recording { what, fs, iq, hint_hz: 0.0 }, r))?;
+        }
+    }
+    Ok(())
+}
+
+/// Runs of two senders that would be taken, with just as many fits as are needed, one fewer and one more; and with
+/// hints about as far off as the carrier may step.
+fn conditions<E>(r: &mut Random, ask: Ask<E>) -> Result<(), E> {
+    let (rec, shorter) = few_fits(r);
+    shorter.iter().try_for_each(&mut *ask)?;
+    let own = Given::own(&rec);
+    for away in [0.99, 0.999, 1.0, 1.001, 1.01, 1.2] {
+        for side in [-1.0, 1.0] {
+            let hint_hz = own.carrier_hz + side * away * MAX_CARRIER_STEP_HZ;
+            let what = format!("{}, hint {away} of the largest step away", rec.what);
+            let rec = Recording { what, hint_hz, ..rec.clone() };
+            ask(&Scene { only: &["cancel_run"], ..Scene::least(rec, own.clone()) })?;
+        }
+    }
+    Ok(())
+}
+
+/// A recording that a run takes, and it cut short to just as many fits as are needed, one fewer and one more; with just
+/// as many it is taken still.
+fn few_fits(r: &mut Random) -> (Recording, Vec<Scene>) {
+    let only = &["cancel_run"];
+    let taken = |s: &Scene| call("cancel_run").outcome(s).is_ok_and(|run| run.kinds.contains(&"taken"));
+    loop {
+        let rec = sent(Aim::Neighbour, r);
+        let small = rec.iq.len() < 40_000 && rec.hint_hz.abs() + 2.0 * MAX_CARRIER_STEP_HZ < rec.fs / 2.0;
+        if !small || !taken(&Scene::least(rec.clone(), Given::default())) {
+            continue;
+        }
+        let given = prefixes(&rec).map(|shorter| (Given::own(&shorter), shorter));
+        let about = given.filter(|(given, _)| given.fit_count.abs_diff(MIN_ELEMENTS) <= 1);
+        let all: Vec<Scene> = about.map(|(given, rec)| Scene { only, ..Scene::least(rec, given) }).collect();
+        if all.iter().any(|s| s.given.fit_count == MIN_ELEMENTS && taken(s)) {
+            return (rec, all);
+        }
+    }
+}
+
+/// The recording cut short, from a quarter of it on, every 15 ms.
+fn prefixes(rec: &Recording) -> impl Iterator<Item = Recording> + '_ {
+    let n = rec.iq.len() / 2;
+    let cut = |n: usize| Recording {
+        what: format!("{}, cut to {n} samples", rec.what),
+        iq: rec.iq[..2 * n].to_vec(),
+        ..rec.clone()
+    };
+    (n / 4..n).step_by((0.015 * rec.fs) as usize).map(cut)
 }
 
 /// Evidence about the limits of each hypothesis.
