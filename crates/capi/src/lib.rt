@@ -1,4 +1,4 @@
-// The C interface: include/cancel.h says the same for a reader of C.
+// The C interface, a file for each subject: include/cancel.h says the same for a reader of C.
 pub mod blocks;
 pub mod calls;
 pub mod functions;
