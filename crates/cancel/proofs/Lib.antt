@@ -17,8 +17,8 @@
 --             `fits-of-listed`, `fits-each`, `fitted-counted`, `skipped-is`, `samples-is`, `window-is`;
 --             `key-downs-balance`, `listed-balance`, `blocks-balance`; `blocks-are`, `classes-are`, `residual-is`,
 --             `evidence-is`, `hypothesis-is`; `counts-exactly`, `counts-nothing`; `list-exactly`, `list-nothing`;
---             `taken-exactly`, `kept-unchanged`, `taken-leaves`, `outside-unchanged`; `same-residual`,
---             `same-evidence`, `same-hypothesis`
+--             `ranked-plain`; `taken-exactly`, `kept-unchanged`, `taken-leaves`, `outside-unchanged`;
+--             `same-residual`, `same-evidence`, `same-hypothesis`
 pub mod FirstNo
 pub mod Given
 pub mod Accepted

@@ -2,21 +2,25 @@
 -- balances, each figure from the lists that it hands out, the list, the word kept or taken with the buffer, and what
 -- two runs share. `promise` and `singles` are what `cancel::run` ensures where it answers `Done`; `singles` says that
 -- each number that the buffer held is an f32. Nothing else is asked of a caller. Assumes nothing.
-use Prim.Native.Nat.{ℕ, _+_, _-_, _<_}
+use Prim.Native.Nat.{ℕ, _+_, _-_, _^_, _≤_, _<_}
 use native.Mathlib.Omega.{arith}
 use mathlib.Core.Path.{_≡_, refl, sym, ap, _∙_, subst}
 use mathlib.Core.Logic.{_≢_, _⊎_, ⊎-elim}
 use mathlib.Core.Bool.{Bool, true, false, not, cond}
 use mathlib.Core.List.{List, [], map, List·Memᴰ}
-use lib.ListN.{length}
-use lib.Ieee.{Float}
-use Rattle.float.specs.Ops.{_⊘_}
+use lib.ListN.{length, getD}
+use lib.Ieee.{Float, nan, le}
+use Rattle.float.specs.Ops.{_⊘_, plus-zero}
+use Rattle.float.specs.Size.{finiteF}
 use Rattle.lists.specs.Those.{those}
 use Rattle.lists.proofs.Firsts.{length-firsts}
 use Rattle.complex.specs.Rows.{zAt}
-use Rattle.row.specs.Samples.{Singles}
-use Rattle.row.specs.Window.{stepOf, windowOf, samples, blocks}
+use Rattle.row.specs.Samples.{Singles, Iq}
+use Rattle.row.specs.Window.{Rate, stepOf, windowOf, samples, blocks}
+use Rattle.row.specs.Blocks.{blockMean}
 use Rattle.row.specs.Envelope.{rowOf, rowLength}
+use Rattle.row.proofs.Means.{blocks-short}
+use Rattle.rank.specs.Order.{minusZero}
 use Rattle.elements.specs.declared.element.KeyedElement.{KeyedElement}
 use Rattle.elements.specs.Element.{elementsIn}
 use Rattle.elements.specs.Keying.{LongKeyDowns, RowCounts, noKeyDowns}
@@ -31,6 +35,8 @@ use Rattle.fits.specs.List.{fitAt, fitsIn, isSkipped, skippedOf}
 use Rattle.fits.specs.Estimate.{refined, carrierStep, strongElements, strongFits, strongEstimate}
 use Rattle.fits.proofs.Records.{fits-read}
 use Rattle.fits.proofs.Strong.{handed-strong, handed-strong-nothing, handed-strong-fits, strong-fit-is, strong-counted}
+use Rattle.fits.proofs.Passes.{fits-few}
+use Rattle.fits.proofs.Gains.{found-gain}
 use Rattle.synth.specs.Span.{spanOf, covers}
 use Rattle.synth.specs.Removal.{subtracted}
 use Rattle.synth.proofs.Samples.{outside-spans}
@@ -41,10 +47,13 @@ use Rattle.classes.specs.Classify.{timesOf, classOf, countsOf}
 use Rattle.classes.proofs.Counts.{blocks-counted}
 use Rattle.measure.specs.declared.residual.ResidualCheck.{ResidualCheck}
 use Rattle.measure.specs.declared.evidence.SecondCarrierEvidence.{SecondCarrierEvidence}
+use Rattle.measure.specs.Powers.{powersOf}
+use Rattle.measure.specs.Left.{residualMean}
 use Rattle.measure.specs.Residual.{residualCheckOf}
 use Rattle.measure.specs.Evidence.{evidenceCheckOf}
 use Rattle.measure.specs.Hypothesis.{hypothesisOf}
 use Rattle.measure.specs.Agree.{AgreeIn}
+use Rattle.measure.proofs.Bounds.{Gains, gains-all, amount-plain, left-powers}
 use Rattle.measure.proofs.Reach.{residual-reach}
 use Rattle.measure.proofs.ReachEvidence.{evidence-check-reach}
 use Rattle.engine.specs.declared.run.Figures.{Figures}
@@ -62,6 +71,12 @@ module _ (buf : List Float) (fs hint : Float) (elements fits work : List Float) 
 
   abbrev fits-out : List ElementFit
   fits-out = fitsIn fits-left (f .estimate .fitted)
+
+  -- the powers that the residual check ranks, of the blocks of a class
+  abbrev ranked : BlockClass → List Float
+  ranked c =
+      powersOf c (classOf fs (samples buf) fits-out elements-out) (residualMean fs (blocks buf (windowOf fs)) fits-out (blockMean buf (f .estimate .«carrier_hz» ⊘ fs) (windowOf fs)))
+      (blocks buf (windowOf fs))
 
   figures-are : f ≡ runFigures buf fs hint
   figures-are = run-done buf fs hint elements fits work _ promise .1
@@ -172,6 +187,25 @@ module _ (buf : List Float) (fs hint : Float) (elements fits work : List Float) 
         let told = run-done buf fs hint elements fits work _ promise in
         let known = estimate-accepted buf fs hint _ _ _ (told .0) in
         rw at-refined (handed-strong buf fs hint left elements _ (told .3) singles (known .iq-ok) thr (rw at-refined at t))
+
+    -- The powers that the residual check ranks are finite, not negative and no −0.0, whatever the class: of the fits
+    -- of an accepted run too `total_cmp` order is the order of the values.
+    gains-bounded : Iq buf → Rate fs → Gains fits-out
+    unfolding strongFits
+    gains-bounded q r = rw fits-out-are (gains-all (strongFits buf fs hint) (λ g m. record { bound = found-gain buf fs (refined buf fs hint) singles q r g m }))
+
+    fits-short : Iq buf → length fits-out ≤ 2 ^ 40
+    unfolding strongFits
+    fits-short q =
+        let most = fits-few buf fs (refined buf fs hint) in
+        let short = blocks-short buf (stepOf fs) (q .short) in
+        rw fits-out-are (omega arith)
+
+    pub ranked-plain : (c : BlockClass) (i : ℕ) → i < length (ranked c) → (finiteF (getD (ranked c) i nan) ≡ true) × (le plus-zero (getD (ranked c) i nan) ≡ true) × (minusZero (getD (ranked c) i nan) ≡ false)
+    ranked-plain c i h =
+        let known = estimate-accepted buf fs hint _ _ _ (run-done buf fs hint elements fits work _ promise .0) in
+        amount-plain (getD (ranked c) i nan)
+        (left-powers buf fs (f .estimate .«carrier_hz» ⊘ fs) fits-out singles (known .iq-ok) (known .rate-ok) (gains-bounded (known .iq-ok) (known .rate-ok)) (fits-short (known .iq-ok)) (classOf fs (samples buf) fits-out elements-out) c i h)
 
   -- With no threshold, nothing.
   pub counts-nothing : thresholdOf buf fs (f .estimate .«carrier_hz») ≡ Absent → f .estimate .found ≡ noKeyDowns

@@ -29,7 +29,7 @@ use Rattle.fits.specs.Estimate.{fitsFound, carrierStep, refined, strongE
 use Rattle.fits.proofs.Fitted.{fitted-few}
 use Rattle.fits.proofs.Records.{fits-read}
 
-bounded-sized : (x : Float) → Bounded 0 (2 ^ 27) x → T (sized x)
+pub bounded-sized : (x : Float) → Bounded 0 (2 ^ 27) x → T (sized x)
 unfolding sized
 bounded-sized x b = within-le 200 x (within-more 27 200 x (lit≤ tt) (go x b))
   where

@@ -1,21 +1,24 @@
 -- The powers that the residual check ranks are amounts: finite and with the sign plus, so that no list of them holds a
--- −0.0 or a NaN, and `total_cmp` order is the order of the values (`left-amount`, `left-ranked`). Gains of size at most
--- 2 ^ 200 and at most 2 ^ 40 fits are asked for, and nothing of times, slopes and references. Assumes nothing.
+-- −0.0 or a NaN, and `total_cmp` order is the order of the values (`left-amount`, `left-ranked`, `amount-plain`). Gains
+-- of size at most 2 ^ 355 and at most 2 ^ 40 fits are asked for, and nothing of times, slopes and references. A given
+-- gain that question 7 lets pass has this size (`gain-sized`), and so has every gain of an estimate of its own
+-- (`found-gain` of fits). Assumes nothing.
 use Prim.Native.Nat.{ℕ, zero, suc, _+_, _-_, _*_, _^_, _≤_, _<_, min, max}
 use native.Mathlib.Nat.{suc-mul}
 use native.Mathlib.Decide.{decLt}
 use native.Mathlib.Omega.{arith}
 use mathlib.Core.Path.{_≡_, refl, sym, subst, _∙_}
 use mathlib.Core.Bool.{Bool, true, false, cond}
-use mathlib.Core.List.{List, [], _∷_, _++_}
+use mathlib.Core.List.{List, [], _∷_, _++_, List·Memᴰ, List·Memᴰ·head, List·Memᴰ·tail}
 use lib.Dec.{T, lit≤}
 use lib.ListN.{length, getD, length-append, List·getD-append}
 use lib.Seq.{getD-at}
-use lib.Ieee.{Float, nan}
-use Rattle.float.specs.Ops.{_⊘_, of}
-use Rattle.float.specs.Size.{sized}
+use lib.Ieee.Bits.{is-true}
+use lib.Ieee.{Float, nan, inf, fin, le}
+use Rattle.float.specs.Ops.{_⊘_, of, plus-zero}
+use Rattle.float.specs.Size.{finiteF, sized}
 use Rattle.float.proofs.Bounds.{beyond-whole, bounded-shift}
-use Rattle.float.proofs.Amounts.{Amount, amount-squares}
+use Rattle.float.proofs.Amounts.{Amount, amount-squares, amount-above}
 use Rattle.lists.specs.Those.{picked}
 use Rattle.lists.specs.Firsts.{firsts}
 use Rattle.complex.specs.declared.value.Complex.{Complex}
@@ -28,12 +31,13 @@ use Rattle.row.proofs.Steps.{step-low, step-high}
 use Rattle.row.proofs.Bounds.{block-bounded}
 use Rattle.rank.specs.declared.Percentile.the-variants.{Value}
 use Rattle.rank.specs.Select.{percentileOf}
+use Rattle.rank.specs.Order.{minusZero}
 use Rattle.rank.proofs.Among.{percentile-keeps}
 use Rattle.fits.specs.declared.fit.ElementFit.{ElementFit}
 use Rattle.fits.specs.List.{fitAt, fitsIn}
 use Rattle.synth.specs.Span.{spanOf}
 use Rattle.synth.specs.Baseband.{synthAt}
-use Rattle.synth.proofs.Bounds.{synth-sized}
+use Rattle.synth.proofs.Bounds.{sized-bounded, synth-bounded}
 use Rattle.classes.specs.declared.class.BlockClass.{BlockClass}
 use Rattle.classes.specs.Class.{isClass}
 use Rattle.measure.specs.Powers.{blockPower, powersOf}
@@ -43,11 +47,14 @@ use Rattle.measure.specs.Left.{takenFrom, lessFit, lessFits, residualMea
 cbounded-shift : (j : ℕ) {k a : ℕ} {z : Complex} → CBounded k (a * 2 ^ j) z → CBounded (k + j) a z
 cbounded-shift j p = record { re-part = bounded-shift j (p .re-part); im-part = bounded-shift j (p .im-part) }
 
--- ---- gains that question 7 lets pass
+-- ---- gains
 
 pub record Gain (f : ElementFit) : Type 0 where
-  pub re-part : T (sized (f .gain .re))
-  pub im-part : T (sized (f .gain .im))
+  pub bound : CBounded 355 1 (f .gain)
+
+-- that question 7 lets pass
+pub gain-sized : (f : ElementFit) → T (sized (f .gain .re)) → T (sized (f .gain .im)) → Gain f
+gain-sized f r i = record { bound = cbounded-more {k = 200} {a = 1} (record { re-part = sized-bounded _ r; im-part = sized-bounded _ i }) (lit≤ tt) (lit≤ tt) }
 
 pub data Gains : List ElementFit → Type 0 where
   none : Gains []
@@ -56,6 +63,11 @@ pub data Gains : List ElementFit → Type 0 where
 gains-end : (fits : List ElementFit) (f : ElementFit) → Gains fits → Gain f → Gains (fits ++ (f ∷ []))
 gains-end [] f none g = more g none
 gains-end (x ∷ fits) f (more h r) g = more h (gains-end fits f r g)
+
+-- of each fit of a list
+pub gains-all : (fits : List ElementFit) → ((f : ElementFit) → List·Memᴰ f fits → Gain f) → Gains fits
+gains-all [] h = none
+gains-all (f ∷ fits) h = more (h f (List·Memᴰ·head refl)) (gains-all fits (λ g m. h g (List·Memᴰ·tail m)))
 
 -- of the first n of a lent list
 pub gains-of : (l : List Float) (n : ℕ) → ((k : ℕ) → k < n → Gain (fitAt l k)) → Gains (fitsIn l n)
@@ -66,19 +78,19 @@ gains-of l (suc n) h = gains-end (firsts (fitAt l) n) (fitAt l n) (gains-of l n 
 -- ---- what is left of a mean
 
 module _ (fs : Float) (len nb : ℕ) (some : 1 ≤ len) (short : len ≤ 512) where
-  term-bounded : (f : ElementFit) (k : ℕ) → Gain f → CBounded 303 1 (cDiv (synthAt fs f k) (of len))
+  term-bounded : (f : ElementFit) (k : ℕ) → Gain f → CBounded 458 1 (cDiv (synthAt fs f k) (of len))
   term-bounded f k g =
-      cbounded-shift 3 {k = 300} {a = 1} (cbounded-div (synth-sized fs f k (g .re-part) (g .im-part)) (beyond-whole len some (omega arith)) (lit≤ tt) (lit≤ tt))
+      cbounded-shift 3 {k = 455} {a = 1} (cbounded-div (synth-bounded fs f k {j = 355} {a = 1} (g .bound) (lit≤ tt) (lit≤ tt)) (beyond-whole len some (omega arith)) (lit≤ tt) (lit≤ tt))
 
-  taken-bounded : (f : ElementFit) (z : Complex) (p n : ℕ) {a : ℕ} → Gain f → CBounded 303 a z → a + n ≤ 2 ^ 53 → CBounded 303 (a + n) (takenFrom fs len f z p n)
+  taken-bounded : (f : ElementFit) (z : Complex) (p n : ℕ) {a : ℕ} → Gain f → CBounded 458 a z → a + n ≤ 2 ^ 53 → CBounded 458 (a + n) (takenFrom fs len f z p n)
   unfolding takenFrom
   taken-bounded f z p zero {a} g c h = cbounded-more c (omega arith) (lit≤ tt)
   taken-bounded f z p (suc n) {a} g c h =
       let next : a + suc n ≡ a + n + 1 = omega arith in
-      subst (λ m. CBounded 303 m (cSub (takenFrom fs len f z p n) (cDiv (synthAt fs f (p + n)) (of len)))) (sym next)
+      subst (λ m. CBounded 458 m (cSub (takenFrom fs len f z p n) (cDiv (synthAt fs f (p + n)) (of len)))) (sym next)
       (cbounded-sub (taken-bounded f z p n g c (omega arith)) (term-bounded f (p + n) g) (omega arith) (lit≤ tt))
 
-  less-bounded : (f : ElementFit) (b : ℕ) (z : Complex) {a : ℕ} → Gain f → CBounded 303 a z → a + 512 ≤ 2 ^ 53 → CBounded 303 (a + 512) (lessFit fs len nb f b z)
+  less-bounded : (f : ElementFit) (b : ℕ) (z : Complex) {a : ℕ} → Gain f → CBounded 458 a z → a + 512 ≤ 2 ^ 53 → CBounded 458 (a + 512) (lessFit fs len nb f b z)
   unfolding lessFit
   less-bounded f b z {a} g c h =
       let s = spanOf fs (nb * len) f in
@@ -86,16 +98,25 @@ module _ (fs : Float) (len nb : ℕ) (some : 1 ≤ len) (short : len ≤ 512) wh
       let fewer : n ≤ 512 = omega arith in
       cbounded-more (taken-bounded f z (max (s .lo) (b * len)) n g c (omega arith)) (omega arith) (lit≤ tt)
 
-  pub left-bounded : (fits : List ElementFit) (b : ℕ) (z : Complex) {a : ℕ} → Gains fits → CBounded 303 a z → a + length fits * 512 ≤ 2 ^ 53
-      → CBounded 303 (a + length fits * 512) (lessFits fs len nb fits b z)
+  pub left-bounded : (fits : List ElementFit) (b : ℕ) (z : Complex) {a : ℕ} → Gains fits → CBounded 458 a z → a + length fits * 512 ≤ 2 ^ 53
+      → CBounded 458 (a + length fits * 512) (lessFits fs len nb fits b z)
   unfolding lessFits
   left-bounded [] b z {a} g c h = cbounded-more c (omega arith) (lit≤ tt)
   left-bounded (f ∷ fits) b z {a} (more g r) c h =
       let next : a + suc (length fits) * 512 ≡ a + 512 + length fits * 512 = omega arith in
-      subst (λ m. CBounded 303 m (lessFits fs len nb fits b (lessFit fs len nb f b z))) (sym next)
+      subst (λ m. CBounded 458 m (lessFits fs len nb fits b (lessFit fs len nb f b z))) (sym next)
       (left-bounded fits b (lessFit fs len nb f b z) r (less-bounded f b z g c (omega arith)) (omega arith))
 
 -- ---- the powers
+
+-- an amount is finite, not negative, and no −0.0
+pub amount-plain : (x : Float) → Amount x → (finiteF x ≡ true) × (le plus-zero x ≡ true) × (minusZero x ≡ false)
+unfolding finiteF minusZero
+amount-plain nan a = absurd (a .plus)
+amount-plain (inf s) a = absurd (a .plus)
+amount-plain (fin true m e) a = absurd (a .plus)
+amount-plain (fin false zero e) a = (refl, is-true (le plus-zero (fin false zero e)) (amount-above a), refl)
+amount-plain (fin false (suc m) e) a = (refl, is-true (le plus-zero (fin false (suc m) e)) (amount-above a), refl)
 
 -- what holds of each value of a row holds of those that are picked
 picked-holds : (P : Float → Type 0) (p : ℕ → Bool) (f : ℕ → Float) (n : ℕ) → ((k : ℕ) → k < n → P (f k)) → (i : ℕ) → i < length (picked p f n) → P (getD (picked p f n) i nan)
@@ -125,9 +146,9 @@ module _ (iq : List Float) (fs cyc : Float) (fits : List ElementFit) (s : Single
   left-amount b h =
       let low = step-low fs in
       let high = step-high fs r in
-      let mean : CBounded 303 2 (blockMean iq cyc (windowOf fs) b) = cbounded-more (block-bounded iq cyc (windowOf fs) b s q (omega arith) h) (lit≤ tt) (lit≤ tt) in
-      let all : CBounded 303 (2 + length fits * 512) (left b) = left-bounded fs (windowOf fs) (blocks iq (windowOf fs)) (omega arith) (omega arith) fits b (blockMean iq cyc (windowOf fs) b) g mean (omega arith) in
-      let small : CBounded 327 (2 ^ 26) (left b) = cbounded-shift 24 {k = 303} {a = 2 ^ 26} (cbounded-more all (omega arith) (lit≤ tt)) in
+      let mean : CBounded 458 2 (blockMean iq cyc (windowOf fs) b) = cbounded-more (block-bounded iq cyc (windowOf fs) b s q (omega arith) h) (lit≤ tt) (lit≤ tt) in
+      let all : CBounded 458 (2 + length fits * 512) (left b) = left-bounded fs (windowOf fs) (blocks iq (windowOf fs)) (omega arith) (omega arith) fits b (blockMean iq cyc (windowOf fs) b) g mean (omega arith) in
+      let small : CBounded 482 (2 ^ 26) (left b) = cbounded-shift 24 {k = 458} {a = 2 ^ 26} (cbounded-more all (omega arith) (lit≤ tt)) in
       amount-squares (small .re-part) (small .im-part) (lit≤ tt) (lit≤ tt)
 
   -- each list of them, and what is ranked in it

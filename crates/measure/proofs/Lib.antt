@@ -14,7 +14,8 @@
 -- Edges     a class with no block: `no-edge-blocks`, `no-interior-blocks`, `no-gap-blocks`; `ratio_db` and `clean` at
 --           their ends
 -- Reach     what the residual check depends on: `residual-reach`; `block-agree`, `left-alike`, `class-alike`
--- Bounds    the powers that are ranked are finite and have the sign plus: `left-amount`, `left-ranked`
+-- Bounds    the powers that are ranked are finite and have the sign plus: `left-amount`, `left-ranked`; what is asked
+--           of gains: `gain-sized`, `gains-all`, `gains-of`
 -- Counted   a loop that counts: `count-none`, `count-yes`, `count-no`, `count-done`; `count-there`; one more that is
 --           picked: `picked-yes`, `picked-no`
 -- References  the rows of powers to both sides of the carrier, and the reference: `both-held`, `reference-is`

@@ -56,6 +56,3 @@ sized-bounded x h = go x (le-within 200 x h)
     go nan w = absurd w
     go (inf s) w = absurd w
     go (fin s m e) w = record { bound = le-trans w (le-of-eq (ap (λ b. b * down e) (sym (one-mul (2 ^ 200))))) }
-
-pub synth-sized : (fs : Float) (f : ElementFit) (k : ℕ) → T (sized (f .gain .re)) → T (sized (f .gain .im)) → CBounded 300 8 (synthAt fs f k)
-synth-sized fs f k r i = synth-bounded fs f k {j = 200} {a = 1} (record { re-part = sized-bounded _ r; im-part = sized-bounded _ i }) (lit≤ tt) (lit≤ tt)

@@ -1,7 +1,7 @@
 -- Laws on spans, syntheses and their removal that the crates above cite, by subject.
 
 -- Spans       a span lies within the recording: `span-ordered`, `span-inside`, `span-within`
--- Bounds      how large a synthesis can be: `envelope-bounded`, `synth-bounded`, `synth-sized`
+-- Bounds      how large a synthesis can be: `envelope-bounded`, `synth-bounded`, `sized-bounded`
 -- Parts       samples that are replaced in a list, and a part of a list that is lent and comes back: `zAt-zFill-below`,
 --             `zAt-zFill-above`, `zAt-zFill-from`, `part-sample`, `part-filled`
 -- Removals    the loops of `take_off` and `subtract`; `length-subtracted`, `subtracted-more`
