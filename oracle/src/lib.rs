@@ -3,6 +3,8 @@
 
 pub mod answers;
 pub mod calls;
+pub mod cases;
+pub mod crowded;
 pub mod given;
 pub mod handed;
 pub mod keydowns;
@@ -17,5 +19,6 @@ pub mod run;
 pub mod scene;
 pub mod signals;
 pub mod stand_ins;
+pub mod stored;
 
 include!(concat!(env!("OUT_DIR"), "/modules.rs"));

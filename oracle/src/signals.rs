@@ -33,6 +33,12 @@ impl Sender {
         Sender { drift_hz_s, ..self }
     }
 
+    /// Adds the sender's samples with its key down at just these times, in samples.
+    pub fn add_at(&self, sum: &mut [(f64, f64)], fs: f64, marks: &[(f64, f64)], r: &mut Random) {
+        let phase = r.between(0.0, TAU);
+        marks.iter().for_each(|&(start, end)| self.mark(sum, fs, start, end, phase));
+    }
+
     /// Adds the sender's samples: marks of one or three units, spaces of one, three or seven.
     fn add(&self, sum: &mut [(f64, f64)], fs: f64, r: &mut Random) {
         let phase = r.between(0.0, TAU);
@@ -75,6 +81,11 @@ pub fn senders(n: usize, fs: f64, all: &[Sender], noise: f64, r: &mut Random) ->
     for sender in all {
         sender.add(&mut sum, fs, r);
     }
+    with_noise(&sum, noise, r)
+}
+
+/// These samples and noise of this size in each part.
+pub fn with_noise(sum: &[(f64, f64)], noise: f64, r: &mut Random) -> Vec<f32> {
     sum.iter().flat_map(|z| [(z.0 + noise * r.noise()) as f32, (z.1 + noise * r.noise()) as f32]).collect()
 }
 

@@ -1,0 +1,15 @@
+-- An f64's bit pattern by its two fields: it is no NaN's if the exponent's field is not all ones, or every digit is 0.
+use Prim.Native.Nat.{ℕ, _/_, _%_}
+use mathlib.Core.Path.{_≡_}
+use mathlib.Core.Bool.{not, and-false}
+use lib.Dec.{T, eqb}
+use lib.Ieee.{binary64, nanBits}
+use borrow.Author.Tests.{eq-eqb, ne-eqb}
+
+pub is-number : (b : ℕ) → (b % 0x8000_0000_0000_0000 / 0x10_0000_0000_0000 ≡ 2047 → ⊥) → T (not (nanBits binary64 b))
+unfolding nanBits
+is-number b e = rw (ne-eqb _ _ e) tt
+
+pub is-infinity : (b : ℕ) → b % 0x10_0000_0000_0000 ≡ 0 → T (not (nanBits binary64 b))
+unfolding nanBits
+is-infinity b f = rw (eq-eqb _ _ f, and-false (eqb (b % 0x8000_0000_0000_0000 / 0x10_0000_0000_0000) 2047)) tt

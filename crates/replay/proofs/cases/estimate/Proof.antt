@@ -1,0 +1,30 @@
+-- `replay::cases::estimate` is safe and ends. Assumes nothing.
+use borrow.Author.Needs.{needs}
+use Rattle.replay.proofs.Prefix.{prefix-length}
+use Rattle.replay.proofs.cases.estimate.Statement.{statement}
+use Rattle.replay.proofs.cases.estimate.Tie as tie
+
+pub estimate-spec : {M : Type 1} → statement M
+estimate-spec =
+    tie.close
+    (tie.spec
+    (λ c κs. search needs)
+    (λ c κs. search needs)
+    (λ c κs. search needs)
+    (λ c κs. search needs)
+    (λ c κs. search needs)
+    (λ c κs. search needs)
+    (λ c κs. search needs)
+    (λ c κs. search needs)
+    (λ c. search (needs, prefix-length))
+    (λ c. search needs)
+    (λ c. search (needs, prefix-length))
+    (λ c. search needs)
+    (λ c. search (needs, prefix-length))
+    (λ c. search needs)
+    (λ c. search (needs, prefix-length))
+    (λ c κs. search needs)
+    (λ c. search needs)
+    (λ c. search needs)
+    (λ c. search needs)
+    (λ c. search needs))

@@ -1,0 +1,25 @@
+-- `replay::cases::find` is safe and ends. Assumes nothing.
+use borrow.Author.Needs.{needs}
+use Rattle.replay.proofs.Prefix.{prefix-length}
+use Rattle.replay.proofs.cases.find.Statement.{statement}
+use Rattle.replay.proofs.cases.find.Tie as tie
+
+pub find-spec : {M : Type 1} → statement M
+find-spec =
+    tie.close
+    (tie.spec
+    (λ c κs. search needs)
+    (λ c κs. search needs)
+    (λ c κs. search needs)
+    (λ c κs. search needs)
+    (λ c κs. search needs)
+    (λ c κs. search needs)
+    (λ c. search (needs, prefix-length))
+    (λ c. search needs)
+    (λ c. search (needs, prefix-length))
+    (λ c. search needs)
+    (λ c. search (needs, prefix-length))
+    (λ c κs. search needs)
+    (λ c. search needs)
+    (λ c. search needs)
+    (λ c. search needs))

@@ -1,0 +1,22 @@
+-- `replay::cases::subtract` is safe and ends. Assumes nothing.
+use borrow.Author.Needs.{needs}
+use Rattle.replay.proofs.Prefix.{prefix-length}
+use Rattle.replay.proofs.cases.subtract.Statement.{statement}
+use Rattle.replay.proofs.cases.subtract.Tie as tie
+
+pub subtract-spec : {M : Type 1} → statement M
+subtract-spec =
+    tie.close
+    (tie.spec
+    (λ c κs. search needs)
+    (λ c κs. search needs)
+    (λ c κs. search needs)
+    (λ c κs. search needs)
+    (λ c κs. search needs)
+    (λ c. search (needs, prefix-length))
+    (λ c. search (needs, prefix-length))
+    (λ c. search needs)
+    (λ c. search (needs, prefix-length))
+    (λ c κs. search needs)
+    (λ c. search needs)
+    (λ c. search needs))

@@ -1,0 +1,407 @@
+// Each call on a stored case, in slices of the lengths that the case names: whether all that it answers and leaves is
+// what is stored, and its refusal's number.
+use crate::asked::Asked;
+use crate::asked::figures;
+use crate::equal::as_lent;
+use crate::equal::changed;
+use crate::equal::same_figures;
+use crate::equal::same_floats;
+use crate::equal::same_list;
+use crate::figures::number;
+use crate::figures::of_estimate;
+use crate::figures::of_evidence;
+use crate::figures::of_find;
+use crate::figures::of_fit;
+use crate::figures::of_hypothesis;
+use crate::figures::of_residual;
+use crate::figures::of_run;
+use crate::units::double;
+use crate::units::long;
+use cancel::Estimate;
+use cancel::EstimateAnswer;
+use cancel::EvidenceAnswer;
+use cancel::Figures;
+use cancel::FindAnswer;
+use cancel::FitAnswer;
+use cancel::Found;
+use cancel::Offset;
+use cancel::ResidualAnswer;
+use cancel::RunAnswer;
+use cancel::SecondCarrierEvidence;
+use cancel::SubtractAnswer;
+
+// What came of a case: whether it is equal, and 0 or the refusal's number.
+pub struct Answered {
+    pub equal: bool,
+    pub no: u64,
+}
+
+// The same of a run: its hypothesis and whether it said taken, where it is accepted; the samples that it changed.
+pub struct Ran {
+    pub equal: bool,
+    pub no: u64,
+    pub hypothesis: usize,
+    pub taken: bool,
+    pub changed: u64,
+}
+
+// Where a case's figures begin, in bytes.
+const FIGURES: usize = 88;
+
+const CLASSIFY_FIGURES: usize = 40;
+
+fn done(equal: bool) -> Answered {
+    Answered { equal, no: 0 }
+}
+
+// A refusal by the stored number leaves lists and work slice as they were lent.
+fn refused(a: Asked, no: u64, elements: &[f64], fits: &[f64], work: &[f64]) -> Answered {
+    if no != a.no {
+        return Answered { equal: false, no };
+    }
+    if !as_lent(elements, 0) {
+        return Answered { equal: false, no };
+    }
+    if !as_lent(fits, 0) {
+        return Answered { equal: false, no };
+    }
+    let equal = as_lent(work, 0);
+    Answered { equal, no }
+}
+
+// The list holds the stored elements, and what follows its last whole place is as it was.
+fn elements_filled(list: &[f64], stored: &[f64], n: usize) -> bool {
+    if !same_list(list, stored, n) {
+        return false;
+    }
+    let rest = list.len() % 4;
+    as_lent(list, list.len() - rest)
+}
+
+// The same of fits.
+fn fits_filled(list: &[f64], stored: &[f64], n: usize) -> bool {
+    if !same_list(list, stored, n) {
+        return false;
+    }
+    let rest = list.len() % 8;
+    as_lent(list, list.len() - rest)
+}
+
+// An accepted call's figures.
+fn figured(a: Asked, answer: &[f64], body: &[u8]) -> bool {
+    if a.no != 0 {
+        return false;
+    }
+    same_figures(answer, figures(body, FIGURES))
+}
+
+fn found(a: Asked, f: Found, body: &[u8], elements: &[f64], stored: &[f64]) -> bool {
+    let answer = of_find(f);
+    if !figured(a, &answer, body) {
+        return false;
+    }
+    elements_filled(elements, stored, a.listed)
+}
+
+pub fn find(
+    a: Asked,
+    body: &[u8],
+    iq: &[f32],
+    stored_elements: &[f64],
+    elements: &mut [f64],
+    work: &mut [f64],
+) -> Answered {
+    match cancel::find_elements(iq, a.fs, a.hint_hz, elements, work) {
+        FindAnswer::Refused(no) => refused(a, no, elements, elements, work),
+        FindAnswer::Done(f) => done(found(a, f, body, elements, stored_elements)),
+    }
+}
+
+fn fitted(a: Asked, n: usize, body: &[u8], fits: &[f64], stored: &[f64]) -> bool {
+    let answer = of_fit(n);
+    if !figured(a, &answer, body) {
+        return false;
+    }
+    fits_filled(fits, stored, a.fitted)
+}
+
+pub fn fit(
+    a: Asked,
+    body: &[u8],
+    iq: &[f32],
+    given_elements: &[f64],
+    stored_fits: &[f64],
+    fits: &mut [f64],
+    work: &mut [f64],
+) -> Answered {
+    match cancel::fit_elements(
+        iq,
+        a.fs,
+        a.hint_hz,
+        given_elements,
+        a.element_count,
+        fits,
+        work,
+    ) {
+        FitAnswer::Refused(no) => refused(a, no, fits, fits, work),
+        FitAnswer::Done(n) => done(fitted(a, n, body, fits, stored_fits)),
+    }
+}
+
+fn lists_filled(
+    a: Asked,
+    elements: &[f64],
+    stored_elements: &[f64],
+    fits: &[f64],
+    stored_fits: &[f64],
+) -> bool {
+    if !elements_filled(elements, stored_elements, a.listed) {
+        return false;
+    }
+    fits_filled(fits, stored_fits, a.fitted)
+}
+
+fn estimated(
+    a: Asked,
+    e: Estimate,
+    body: &[u8],
+    elements: &[f64],
+    stored_elements: &[f64],
+    fits: &[f64],
+    stored_fits: &[f64],
+) -> bool {
+    let answer = of_estimate(e);
+    if !figured(a, &answer, body) {
+        return false;
+    }
+    lists_filled(a, elements, stored_elements, fits, stored_fits)
+}
+
+pub fn estimate(
+    a: Asked,
+    body: &[u8],
+    iq: &[f32],
+    stored_elements: &[f64],
+    stored_fits: &[f64],
+    elements: &mut [f64],
+    fits: &mut [f64],
+    work: &mut [f64],
+) -> Answered {
+    match cancel::estimate_strong(iq, a.fs, a.hint_hz, elements, fits, work) {
+        EstimateAnswer::Refused(no) => refused(a, no, elements, fits, work),
+        EstimateAnswer::Done(e) => done(estimated(
+            a,
+            e,
+            body,
+            elements,
+            stored_elements,
+            fits,
+            stored_fits,
+        )),
+    }
+}
+
+pub fn residual(
+    a: Asked,
+    body: &[u8],
+    iq: &[f32],
+    given_elements: &[f64],
+    given_fits: &[f64],
+    work: &mut [f64],
+) -> Answered {
+    match cancel::residual_check(
+        iq,
+        a.fs,
+        a.carrier_hz,
+        a.carrier_step_hz,
+        given_elements,
+        a.element_count,
+        given_fits,
+        a.fit_count,
+        work,
+    ) {
+        ResidualAnswer::Refused(no) => refused(a, no, work, work, work),
+        ResidualAnswer::Done(r) => {
+            let answer = of_residual(r);
+            done(figured(a, &answer, body))
+        }
+    }
+}
+
+pub fn evidence(
+    a: Asked,
+    body: &[u8],
+    iq: &[f32],
+    given_elements: &[f64],
+    given_fits: &[f64],
+    work: &mut [f64],
+) -> Answered {
+    match cancel::second_carrier_evidence(
+        iq,
+        a.fs,
+        a.carrier_hz,
+        a.carrier_step_hz,
+        given_elements,
+        a.element_count,
+        given_fits,
+        a.fit_count,
+        work,
+    ) {
+        EvidenceAnswer::Refused(no) => refused(a, no, work, work, work),
+        EvidenceAnswer::Done(e) => {
+            let answer = of_evidence(e);
+            done(figured(a, &answer, body))
+        }
+    }
+}
+
+fn offset(present: u64, hz: f64) -> Offset {
+    if present == 0 {
+        Offset::Absent
+    } else {
+        Offset::Hz(hz)
+    }
+}
+
+// It refuses nothing.
+pub fn classify(body: &[u8]) -> Answered {
+    let e = SecondCarrierEvidence {
+        gap_blocks: long(body, 0) as usize,
+        hot_fraction: double(body, 2),
+        offset_hz: offset(long(body, 4), double(body, 6)),
+        coherence: double(body, 8),
+    };
+    let answer = of_hypothesis(cancel::classify(e));
+    done(same_figures(&answer, figures(body, CLASSIFY_FIGURES)))
+}
+
+// The buffer after an accepted call: as it was, or as stored.
+fn left_as_stored(a: Asked, buf: &[f32], iq: &[f32], left: &[f32]) -> bool {
+    if a.no != 0 {
+        return false;
+    }
+    if a.changed {
+        return same_floats(buf, left);
+    }
+    same_floats(buf, iq)
+}
+
+// The buffer holds the recording.
+pub fn subtract(
+    a: Asked,
+    iq: &[f32],
+    left: &[f32],
+    given_elements: &[f64],
+    given_fits: &[f64],
+    buf: &mut [f32],
+) -> Answered {
+    match cancel::subtract(
+        buf,
+        a.fs,
+        a.carrier_hz,
+        a.carrier_step_hz,
+        given_elements,
+        a.element_count,
+        given_fits,
+        a.fit_count,
+    ) {
+        SubtractAnswer::Refused(no) => {
+            let kept = same_floats(buf, iq);
+            Answered {
+                equal: if kept { no == a.no } else { false },
+                no,
+            }
+        }
+        SubtractAnswer::Done => done(left_as_stored(a, buf, iq, left)),
+    }
+}
+
+fn run_refused(
+    a: Asked,
+    no: u64,
+    iq: &[f32],
+    buf: &[f32],
+    elements: &[f64],
+    fits: &[f64],
+    work: &[f64],
+) -> Ran {
+    let lists = refused(a, no, elements, fits, work);
+    let kept = same_floats(buf, iq);
+    Ran {
+        equal: if kept { lists.equal } else { false },
+        no,
+        hypothesis: 0,
+        taken: false,
+        changed: 0,
+    }
+}
+
+fn run_filled(
+    a: Asked,
+    f: Figures,
+    body: &[u8],
+    stored_elements: &[f64],
+    stored_fits: &[f64],
+    elements: &[f64],
+    fits: &[f64],
+) -> bool {
+    let answer = of_run(f);
+    if !figured(a, &answer, body) {
+        return false;
+    }
+    lists_filled(a, elements, stored_elements, fits, stored_fits)
+}
+
+fn run_done(
+    a: Asked,
+    f: Figures,
+    body: &[u8],
+    iq: &[f32],
+    left: &[f32],
+    stored_elements: &[f64],
+    stored_fits: &[f64],
+    buf: &[f32],
+    elements: &[f64],
+    fits: &[f64],
+) -> Ran {
+    let h = f.hypothesis;
+    let answers = run_filled(a, f, body, stored_elements, stored_fits, elements, fits);
+    let leaves = left_as_stored(a, buf, iq, left);
+    Ran {
+        equal: if answers { leaves } else { false },
+        no: 0,
+        hypothesis: number(h),
+        taken: f.taken,
+        changed: changed(buf, iq),
+    }
+}
+
+// The buffer holds the recording.
+pub fn run(
+    a: Asked,
+    body: &[u8],
+    iq: &[f32],
+    left: &[f32],
+    stored_elements: &[f64],
+    stored_fits: &[f64],
+    buf: &mut [f32],
+    elements: &mut [f64],
+    fits: &mut [f64],
+    work: &mut [f64],
+) -> Ran {
+    match cancel::run(buf, a.fs, a.hint_hz, elements, fits, work) {
+        RunAnswer::Refused(no) => run_refused(a, no, iq, buf, elements, fits, work),
+        RunAnswer::Done(f) => run_done(
+            a,
+            f,
+            body,
+            iq,
+            left,
+            stored_elements,
+            stored_fits,
+            buf,
+            elements,
+            fits,
+        ),
+    }
+}

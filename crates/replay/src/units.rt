@@ -1,0 +1,82 @@
+// A record's numbers: 32-bit units, the least byte first, and numbers of two units, the lower one first. A unit that
+// the record does not have is 0, so that no file is too short to be read.
+ghost use Prim.Native.Nat.{_≤_};
+
+// The smaller of two numbers.
+pub fn shorter(a: usize, b: usize) -> usize
+    ensures { λ r. ⌜ (r ≤ a) × (r ≤ b) ⌝ }
+{
+    if a <= b { a } else { b }
+}
+
+fn joined_bytes(a: u8, b: u8, c: u8, d: u8) -> u32 {
+    a as u32 + 0x100 * (b as u32) + 0x1_0000 * (c as u32) + 0x100_0000 * (d as u32)
+}
+
+fn joined_units(low: u32, high: u32) -> u64 {
+    low as u64 + 0x1_0000_0000 * (high as u64)
+}
+
+// 16 bits: half a unit.
+pub fn half(bytes: &[u8], i: usize) -> u32 {
+    if i < bytes.len() / 2 {
+        joined_bytes(bytes[2 * i], bytes[2 * i + 1], 0, 0)
+    } else {
+        0
+    }
+}
+
+pub fn unit(bytes: &[u8], i: usize) -> u32 {
+    if i < bytes.len() / 4 {
+        joined_bytes(
+            bytes[4 * i],
+            bytes[4 * i + 1],
+            bytes[4 * i + 2],
+            bytes[4 * i + 3],
+        )
+    } else {
+        0
+    }
+}
+
+// A unit that is a count or a length.
+pub fn count(bytes: &[u8], i: usize) -> usize {
+    unit(bytes, i) as usize
+}
+
+// The number of units i and i + 1.
+pub fn long(bytes: &[u8], i: usize) -> u64 {
+    if i < bytes.len() / 4 {
+        joined_units(unit(bytes, i), unit(bytes, i + 1))
+    } else {
+        0
+    }
+}
+
+// The f64 of any bit pattern. `f64::from_bits` is for numbers and infinities; every other pattern is a NaN.
+fn of_pattern(bits: u64) -> f64 {
+    let exponent = bits % 0x8000_0000_0000_0000 / 0x10_0000_0000_0000;
+    let digits = bits % 0x10_0000_0000_0000;
+    if exponent == 2047 {
+        if digits != 0 {
+            return 0.0 / 0.0;
+        }
+    }
+    f64::from_bits(bits)
+}
+
+// The f64 of units i and i + 1.
+pub fn double(bytes: &[u8], i: usize) -> f64 {
+    of_pattern(long(bytes, i))
+}
+
+// The f32 of unit i.
+pub fn single(bytes: &[u8], i: usize) -> f32 {
+    let mut one = [0.0f32; 1];
+    if i < bytes.len() / 4 {
+        let from = 4 * i;
+        let to = from + 4;
+        report::samples(&bytes[from..to], &mut one);
+    }
+    one[0]
+}
