@@ -11,8 +11,8 @@ const MOST_SAMPLES: usize = 1 << 20;
 
 /// The lists and the work slice that the library is lent.
 ///
-/// It is made once, for the longest recording that will come, and used from call to call: then no call allocates. A call
-/// on a longer recording is refused with [`Refusal::Places`] or [`Refusal::Work`]; [`Workspace::make_room`] helps.
+/// It is made once, for the longest recording that will come, and used from call to call: then no call allocates. A
+/// call on a longer recording is refused with [`Refusal::Places`] or [`Refusal::Work`]; [`Workspace::make_room`] helps.
 ///
 /// ```
 /// use cancel::{Complex32, Refusal, Workspace};

@@ -1,7 +1,7 @@
-//! One program, written for the module cancel.rs, over the module and over the package that goes in its place. All that
-//! the package asks of it is to take the `Result`s apart: `told!` stands around each call. Over the module with document
-//! 01's stand-ins its answers are the package's to the last bit; over the module as published, whose sine and cosine are
-//! the platform's, they are near.
+//! One program, written for the module cancel.rs, over the module and over the package that goes in its place. All
+//! that the package asks of it is to take the `Result`s apart: `told!` stands around each call. Over the module with
+//! document 01's stand-ins its answers are the package's to the last bit; over the module as published, whose sine and
+//! cosine are the platform's, they are near.
 
 #![cfg(cancel_rs)]
 

@@ -19,7 +19,7 @@ struct Sender {
     spaces: [f64; 3],
 }
 
-/// A strong sender with nothing beside it, a keyed neighbour, a steady carrier, a neighbour too close; at several rates.
+/// A strong sender with nothing beside it, a keyed neighbour, a steady carrier, a neighbour too close; at four rates.
 pub fn all() -> Vec<Recording> {
     let neighbours = [("alone", None), ("a keyed neighbour", Some(60.0)), ("too close", Some(4.0))];
     let mut out = Vec::new();
