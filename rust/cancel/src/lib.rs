@@ -36,6 +36,8 @@ mod linked;
 mod plain;
 mod records;
 mod refusal;
+#[cfg(feature = "rows")]
+mod rows;
 mod workspace;
 
 pub use answers::{Hypothesis, KeyDownCounts, ResidualCheck, Run, RunFigures, SecondCarrierEvidence};
@@ -46,6 +48,8 @@ pub use plain::{
 };
 pub use records::{ElementFit, KeyDown, KeyedElement, StrongEstimate};
 pub use refusal::Refusal;
+#[cfg(feature = "rows")]
+pub use rows::{amplitude_row, block_classes, AmplitudeRow, BlockClass};
 pub use workspace::{Estimate, Fitted, Found, Ran, Workspace};
 
 /// Which library this package was linked with.

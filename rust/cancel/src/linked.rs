@@ -117,6 +117,36 @@ extern "C" {
     fn cancel_blocks(iq_len: usize, fs: f64) -> usize;
 }
 
+#[cfg(feature = "rows")]
+extern "C" {
+    fn cancel_amplitude_row(
+        iq: *const f32,
+        iq_len: usize,
+        fs: f64,
+        carrier_hz: f64,
+        row: *mut f64,
+        row_len: usize,
+        work: *mut f64,
+        work_len: usize,
+        figures: *mut f64,
+    ) -> u64;
+    fn cancel_block_classes(
+        iq_len: usize,
+        fs: f64,
+        carrier_hz: f64,
+        carrier_step_hz: f64,
+        elements: *const f64,
+        elements_len: usize,
+        element_count: usize,
+        fits: *const f64,
+        fits_len: usize,
+        fit_count: usize,
+        classes: *mut f64,
+        classes_len: usize,
+        figures: *mut f64,
+    ) -> u64;
+}
+
 /// An estimate that is given: its lists, of which the first so many records count.
 pub(crate) struct Given<'a> {
     pub carrier_hz: f64,
@@ -363,4 +393,55 @@ pub(crate) fn run(
 pub(crate) fn blocks(samples: usize, fs: f64) -> usize {
     // Safety: nothing is lent.
     unsafe { cancel_blocks(2 * samples, fs) }
+}
+
+/// How many amplitudes, whether there is a threshold (0 or 1), the threshold.
+#[cfg(feature = "rows")]
+pub(crate) fn amplitude_row(
+    iq: &[Complex32],
+    fs: f64,
+    carrier_hz: f64,
+    row: &mut [f64],
+    work: &mut [f64],
+) -> Result<[f64; 3], Refusal> {
+    let (iq, iq_len) = numbers(iq);
+    let (row, row_len) = (row.as_mut_ptr(), row.len());
+    let (work, work_len) = (work.as_mut_ptr(), work.len());
+    let mut figures = [0.0; 3];
+    // Safety: every pointer is of a slice and beside its length; the written ones are borrowed mutably.
+    let status =
+        unsafe { cancel_amplitude_row(iq, iq_len, fs, carrier_hz, row, row_len, work, work_len, figures.as_mut_ptr()) };
+    told(status, figures)
+}
+
+/// Blocks, and how many are of each class.
+#[cfg(feature = "rows")]
+pub(crate) fn block_classes(
+    samples: usize,
+    fs: f64,
+    est: &Given<'_>,
+    classes: &mut [f64],
+) -> Result<[f64; 5], Refusal> {
+    let (classes, classes_len) = (classes.as_mut_ptr(), classes.len());
+    let mut figures = [0.0; 5];
+    // Safety: every pointer is of a slice and beside its length; the written one is borrowed mutably. No recording is
+    // lent, only its length; one of more numbers than can be counted is as much refused as the longest that can.
+    let status = unsafe {
+        cancel_block_classes(
+            samples.saturating_mul(2),
+            fs,
+            est.carrier_hz,
+            est.carrier_step_hz,
+            est.elements.as_ptr(),
+            est.elements.len(),
+            est.element_count,
+            est.fits.as_ptr(),
+            est.fits.len(),
+            est.fit_count,
+            classes,
+            classes_len,
+            figures.as_mut_ptr(),
+        )
+    };
+    told(status, figures)
 }

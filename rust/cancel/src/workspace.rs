@@ -177,7 +177,7 @@ impl Workspace {
 }
 
 /// B of a recording of so many samples. More than are accepted need no room, since the call refuses them first.
-fn steps(samples: usize, fs: f64) -> usize {
+pub(crate) fn steps(samples: usize, fs: f64) -> usize {
     linked::blocks(samples.min(MOST_SAMPLES), fs)
 }
 
@@ -281,7 +281,7 @@ impl Estimate<'_> {
     }
 
     /// As it is handed in, and the work slice.
-    fn given(&mut self) -> (Given<'_>, &mut [f64]) {
+    pub(crate) fn given(&mut self) -> (Given<'_>, &mut [f64]) {
         let Workspace { elements, fits, work } = &mut *self.workspace;
         let given = Given {
             carrier_hz: self.carrier_hz,

@@ -43,6 +43,10 @@ pub struct Run {
     /// Write the recording as the run leaves it, as .cf32
     #[arg(long, value_name = "FILE")]
     pub out: Option<PathBuf>,
+    /// Draw what the run saw and did
+    #[cfg(feature = "pictures")]
+    #[arg(long, value_name = "OUT.svg|png")]
+    pub picture: Option<PathBuf>,
     /// Add the file, its rate and hint, and the library's commit and digest to each report
     #[arg(long)]
     pub statement: bool,
@@ -64,6 +68,13 @@ pub fn parse() -> Result<Wanted, Problem> {
 fn checked(run: Run) -> Result<Run, Problem> {
     if run.out.is_some() && run.files.len() > 1 {
         return Err(Problem::with("--out", "it is for one recording, and there are several"));
+    }
+    #[cfg(feature = "pictures")]
+    if let Some(path) = &run.picture {
+        if run.files.len() > 1 {
+            return Err(Problem::with("--picture", "it is for one recording, and there are several"));
+        }
+        crate::picture::checked(path)?;
     }
     Ok(run)
 }

@@ -4,6 +4,8 @@
 //! output was wrong; one line says what.
 
 mod args;
+#[cfg(feature = "pictures")]
+mod picture;
 mod problem;
 mod reading;
 mod report;

@@ -1,6 +1,8 @@
 //! Runs one recording, or several one after another.
 
 use crate::args::Run;
+#[cfg(feature = "pictures")]
+use crate::picture;
 use crate::problem::{self, Problem};
 use crate::reading::{self, Recording};
 use crate::report::{self, Statement};
@@ -76,6 +78,8 @@ fn ran(
     let Recording { name, samples, rate } = recording;
     let statement = Statement::new(name, *rate, args.hint);
     let statement = if args.statement { Some(&statement) } else { None };
+    #[cfg(feature = "pictures")]
+    let before = if args.picture.is_some() { samples.clone() } else { Vec::new() };
     workspace.make_room(samples.len(), *rate);
     let ran = workspace.run(samples, *rate, args.hint).map_err(|refusal| {
         let said = match (args.json, form) {
@@ -85,9 +89,17 @@ fn ran(
         };
         (said, Problem::Refused(name.clone(), refusal))
     })?;
+    // All files are complete before the first is put in its place.
+    let wrong = |problem| (String::new(), problem);
+    let mut staged = Vec::new();
     if let Some(out) = &args.out {
-        Staged::samples(out, samples).and_then(Staged::put).map_err(|problem| (String::new(), problem))?;
+        staged.push(Staged::samples(out, samples).map_err(wrong)?);
     }
+    #[cfg(feature = "pictures")]
+    if let Some(path) = &args.picture {
+        staged.push(picture::of_run(path, name, *rate, &before, samples, &ran).map_err(wrong)?);
+    }
+    staged.into_iter().try_for_each(Staged::put).map_err(wrong)?;
     Ok(match (args.json, form) {
         (true, _) => report::json(name, &ran, statement),
         (false, Form::Whole) => report::text(&ran, statement),

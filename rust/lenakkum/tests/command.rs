@@ -209,3 +209,36 @@ fn wrong_input() {
     }
     assert_eq!(names(&folder), before);
 }
+
+/// A picture is written whole, by the library's own rows, or not at all.
+#[cfg(feature = "pictures")]
+#[test]
+fn pictures() {
+    let folder = folder("pictures");
+    fs::write(folder.join("one.cf32"), one()).unwrap();
+    fs::write(folder.join("two.cf32"), two()).unwrap();
+    let said = lenakkum(&folder, "run two.cf32 --rate 3000 --picture two.svg --out left.cf32");
+    assert_eq!(said.status.code(), Some(0), "{}", text(&said.stderr));
+    let drawn = fs::read_to_string(folder.join("two.svg")).unwrap();
+    for word in ["threshold", "listed 21", "short 0", "fitted 21", "skipped 0", "taken off", "before (light)", "</svg>"]
+    {
+        assert!(drawn.contains(word), "{word}");
+    }
+    lenakkum(&folder, "run one.cf32 --rate 3000 --picture one.png");
+    assert!(fs::read(folder.join("one.png")).unwrap().starts_with(b"\x89PNG"));
+    assert_eq!(names(&folder), ["left.cf32", "one.cf32", "one.png", "two.cf32", "two.svg"]);
+    let cases = [
+        ("run one.cf32 --rate 3000 --picture one.jpg", "one.jpg: a picture's name ends in .svg or .png"),
+        ("run one.cf32 --rate 3000 --picture none/one.svg", "none/one.svg: "),
+        ("run one.cf32 --rate 3000 --picture none/one.png --out kept.cf32", "none/one.png: "),
+        ("run one.cf32 two.cf32 --rate 3000 --picture one.svg", "--picture: it is for one recording"),
+    ];
+    for (words, line) in cases {
+        let said = lenakkum(&folder, words);
+        assert_eq!((said.status.code(), text(&said.stdout)), (Some(2), String::new()), "{words}");
+        let complaint = text(&said.stderr);
+        assert!(complaint.lines().count() == 1 && complaint.contains(line), "{words}: {complaint}");
+    }
+    assert_eq!(lenakkum(&folder, "run one.cf32 --rate 100 --picture no.svg").status.code(), Some(1));
+    assert_eq!(names(&folder), ["left.cf32", "one.cf32", "one.png", "two.cf32", "two.svg"]);
+}
