@@ -2,9 +2,9 @@
 //!
 //! Each `unsafe` block is one call of a function that is proved, for every input, to read and write only what it is
 //! lent and to return. What is left to show is the caller's part, as `include/cancel.h` states it, and it is the same
-//! for all: pointers come from slices, so they are not null (not even of an empty slice), are aligned and stand for as many
-//! numbers as the length beside them says; a slice that is written is borrowed mutably, so it overlaps no other; and
-//! `figures` is an array of just so many numbers. `told` then turns the status into a `Result`.
+//! for all: pointers come from slices, so they are not null (not even of an empty slice), are aligned and stand for as
+//! many numbers as the length beside them says; a slice that is written is borrowed mutably, so it overlaps no other;
+//! and `figures` is an array of just so many numbers. `told` then turns the status into a `Result`.
 
 use crate::refusal::Refusal;
 use num_complex::Complex32;

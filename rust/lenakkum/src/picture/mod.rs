@@ -1,5 +1,5 @@
-//! The picture of a run: the amplitude row with its threshold, what was found in it, and the neighbour's envelope before
-//! and after. All that it shows is the proved library's: figures, lists, amplitude rows and classes.
+//! The picture of a run: the amplitude row with its threshold, what was found in it, and the neighbour's envelope
+//! before and after. All that it shows is the proved library's: figures, lists, amplitude rows and classes.
 
 mod draw;
 mod lanes;
