@@ -1,22 +1,22 @@
 /*
  * cancel.h: the strong sender of a recording, and the gaps it leaves.
  *
- * Link target/staticlib/libcapi.a (written by `rt staticlib capi`) and -lm.
+ * Link target/staticlib/libcapi.a (written by `rt staticlib capi`, for x86-64) and -lm. C99 or later, or C++.
  *
  * A recording is n complex samples, lent as 2n floats, real part then imaginary part. fs is samples per second. step
- * and window = 8 * step follow from fs: step is fs / 3000 rounded, at least 1. B = n / step, rounded down.
+ * and window = 8 * step follow from fs: step is fs / 3000 rounded, at least 1. B = n / step, rounded down;
+ * cancel_blocks answers it.
  *
- * Slices. A slice is a pointer and its length in numbers, not bytes and not records. Pointers are never null, not even
- * where the length is 0, and slices that are lent to one call do not overlap. Nothing is allocated: the caller lends
- * the lists to be filled and the work slice.
+ * Slices. A slice is a pointer and its length in numbers, not bytes and not records. Pointers are aligned and never
+ * null, not even where the length is 0, and slices that are lent to one call do not overlap. Nothing is allocated: the
+ * caller lends the lists to be filled and the work slice, as long as CANCEL_ELEMENTS_LEN, CANCEL_FITS_LEN and
+ * CANCEL_WORK_LEN say of B, or longer.
  *
- * Records. An element is 4 doubles: start, end (in samples, between samples), up, down (positions in the amplitude
- * row). A fit is 8 doubles: its element's four, gain (real, imaginary), phase slope (radians a sample), reference
- * sample. A place of a list is one record; numbers after the last whole place are no place and are never written.
+ * Records. An element is 4 numbers of its list and a fit 8, in the order of struct cancel_element and struct
+ * cancel_fit. A place of a list is one record; numbers after the last whole place are no place and are never written.
  *
- * Answers. Every call but the last seven returns 0, or the number of the first question below that it must answer with
- * no. On a refusal nothing lent is written, figures included. On a 0 the figures are written, then the first `listed`
- * or `fitted` places of the lists; what the places after them and the work slice then hold is not said.
+ * Answers. The calls below return 0 or the number of a refusal: the first of these questions that the call asks and
+ * that has the answer no.
  *
  *   1  fs is a number from 2000 to 192000, ends included
  *   2  the float count is even and at most 2097152
@@ -29,8 +29,21 @@
  *
  *   cancel_find_elements                                    asks 1 2 3 4 5 6
  *   cancel_fit_elements                                     asks 1 2 3 4 5 6 7
- *   cancel_estimate_strong                                  asks 1 2 3 4 5 6
+ *   cancel_estimate_strong, cancel_run                      asks 1 2 3 4 5 6
  *   cancel_residual_check, cancel_second_carrier_evidence   asks 1 2 3 6 7
+ *   cancel_subtract                                         asks 1 2 3 7
+ *   cancel_classify                                         asks nothing and returns 0
+ *
+ * On a refusal nothing lent is written, figures included. On a 0 all figures are written, and the first places of the
+ * lists to be filled, as many as the figures count; what the places after them and the work slice then hold is not
+ * said. Recordings and lists that are lent as const are never written, and the buffer only as its call says.
+ *
+ * cancel_blocks and the functions of numbers at the end refuse nothing and return what they compute.
+ *
+ * Calls are re-entrant: they keep nothing between them, so several threads may make them at once, if nothing that one
+ * of them writes is lent to another. A call takes less than 32 KiB of stack, however long the recording: there is no
+ * recursion. They expect the floating-point environment that a program starts with (to nearest, subnormals kept) and
+ * leave it so.
  */
 #ifndef CANCEL_H
 #define CANCEL_H
@@ -42,6 +55,10 @@
 extern "C" {
 #endif
 
+/* The interface's version. MAJOR grows when something that is here changes, MINOR when something is added. */
+#define CANCEL_VERSION_MAJOR 1
+#define CANCEL_VERSION_MINOR 0
+
 /* Numbers in a record, and in the figures of each call. */
 #define CANCEL_ELEMENT_NUMBERS 4
 #define CANCEL_FIT_NUMBERS 8
@@ -50,52 +67,201 @@ extern "C" {
 #define CANCEL_ESTIMATE_FIGURES 7
 #define CANCEL_RESIDUAL_FIGURES 5
 #define CANCEL_EVIDENCE_FIGURES 5
+#define CANCEL_CLASSIFY_FIGURES 2
+#define CANCEL_RUN_FIGURES 28
+
+/* The numbers that the lists to be filled and the work slice need where B blocks are counted. Each can be 0. */
+#define CANCEL_ELEMENTS_LEN(blocks) ((blocks) / 2 * CANCEL_ELEMENT_NUMBERS)
+#define CANCEL_FITS_LEN(blocks) ((blocks) / 2 * CANCEL_FIT_NUMBERS)
+#define CANCEL_WORK_LEN(blocks) ((blocks) * 4)
+
+/* An element: its times in samples, which lie between samples, and its positions in the amplitude row. */
+struct cancel_element {
+    double start;
+    double end;
+    double up;
+    double down;
+};
+
+/* A fit: its element, the gain, the phase slope and the sample at which the gain's phase is meant. */
+struct cancel_fit {
+    struct cancel_element element;
+    double gain_re;
+    double gain_im;
+    double slope_rad_per_sample;
+    double ref_sample;
+};
+
+/* What a call returns. */
+enum cancel_refusal {
+    CANCEL_ACCEPTED = 0,
+    CANCEL_REFUSED_RATE = 1,
+    CANCEL_REFUSED_COUNT = 2,
+    CANCEL_REFUSED_SAMPLE = 3,
+    CANCEL_REFUSED_CARRIER = 4,
+    CANCEL_REFUSED_PLACES = 5,
+    CANCEL_REFUSED_WORK = 6,
+    CANCEL_REFUSED_GIVEN = 7
+};
+
+/* A hypothesis as a figure has it. TWO_SIGNAL_CW alone has an offset. */
+enum cancel_hypothesis {
+    CANCEL_ONE_SIGNAL = 0,
+    CANCEL_TWO_SIGNAL_CW = 1,
+    CANCEL_NON_CW = 2,
+    CANCEL_UNRESOLVED = 3
+};
 
 /*
- * Key-down elements of the carrier at carrier_hz, an offset from the recording's centre.
- * figures, 4: key-downs, listed, short, airtime (in samples, over listed elements).
- * elements receives the listed ones.
+ * The number of whole steps, B, in a recording of iq_len floats; 0 where question 1 refuses fs. Nothing else is asked.
+ */
+size_t cancel_blocks(size_t iq_len, double fs);
+
+/* The figures of cancel_find_elements. Airtime is in samples, over the listed elements. */
+enum cancel_find_figure {
+    CANCEL_FIND_KEY_DOWNS,
+    CANCEL_FIND_LISTED,
+    CANCEL_FIND_SHORT,
+    CANCEL_FIND_AIRTIME
+};
+
+/*
+ * Key-down elements of the carrier at carrier_hz, an offset from the recording's centre. elements receives the listed
+ * ones.
  */
 uint64_t cancel_find_elements(const float *iq, size_t iq_len, double fs, double carrier_hz,
                               double *elements, size_t elements_len, double *work, size_t work_len, double *figures);
 
+/* The figure of cancel_fit_elements. */
+enum cancel_fit_figure {
+    CANCEL_FIT_FITTED
+};
+
 /*
- * Gain and phase slope of each given element whose interior is long enough and lies in the recording.
- * figures, 1: fitted. fits receives that many fits, in the order of their elements.
+ * Gain and phase slope of each given element whose interior is long enough and lies in the recording. fits receives
+ * the fitted ones, in the order of their elements.
  */
 uint64_t cancel_fit_elements(const float *iq, size_t iq_len, double fs, double carrier_hz,
                              const double *elements, size_t elements_len, size_t element_count,
                              double *fits, size_t fits_len, double *work, size_t work_len, double *figures);
 
+/* The figures of cancel_estimate_strong. */
+enum cancel_estimate_figure {
+    CANCEL_ESTIMATE_CARRIER_HZ,
+    CANCEL_ESTIMATE_CARRIER_STEP_HZ,
+    CANCEL_ESTIMATE_KEY_DOWNS,
+    CANCEL_ESTIMATE_LISTED,
+    CANCEL_ESTIMATE_SHORT,
+    CANCEL_ESTIMATE_AIRTIME,
+    CANCEL_ESTIMATE_FITTED
+};
+
 /*
- * Find, fit, refine the carrier once, find and fit again at the refined carrier.
- * figures, 7: carrier_hz, carrier_step_hz, key-downs, listed, short, airtime, fitted.
- * elements receives the listed ones and fits the fitted ones, both of the second pass.
+ * Find, fit, refine the carrier once, find and fit again at the refined carrier. elements receives the listed ones and
+ * fits the fitted ones, both of the second pass.
  */
 uint64_t cancel_estimate_strong(const float *iq, size_t iq_len, double fs, double hint_hz,
                                 double *elements, size_t elements_len, double *fits, size_t fits_len,
                                 double *work, size_t work_len, double *figures);
 
+/* The figures of cancel_residual_check. A ratio is +infinity where one of its sides is missing. */
+enum cancel_residual_figure {
+    CANCEL_RESIDUAL_EDGE_OVER_NEIGHBOUR_DB,
+    CANCEL_RESIDUAL_INTERIOR_OVER_NEIGHBOUR_DB,
+    CANCEL_RESIDUAL_EDGE_BLOCKS,
+    CANCEL_RESIDUAL_INTERIOR_BLOCKS,
+    CANCEL_RESIDUAL_GAP_BLOCKS
+};
+
 /*
  * What taking a given estimate off would leave of the strong sender, over the level of its neighbour. The estimate is
  * its carrier, its carrier step, and the first element_count elements and fit_count fits of two lists.
- * figures, 5: edge_over_neighbour_db, interior_over_neighbour_db (+infinity where a side is missing), edge_blocks,
- * interior_blocks, gap_blocks.
  */
 uint64_t cancel_residual_check(const float *iq, size_t iq_len, double fs, double carrier_hz, double carrier_step_hz,
                                const double *elements, size_t elements_len, size_t element_count,
                                const double *fits, size_t fits_len, size_t fit_count,
                                double *work, size_t work_len, double *figures);
 
-/*
- * What a second carrier shows in the gaps of a given estimate.
- * figures, 5: gap_blocks, hot_fraction, offset present (0 or 1), offset_hz (0 where absent), coherence.
- */
+/* The figures of cancel_second_carrier_evidence. PRESENT is 0 or 1, and OFFSET_HZ is 0 where PRESENT is. */
+enum cancel_evidence_figure {
+    CANCEL_EVIDENCE_GAP_BLOCKS,
+    CANCEL_EVIDENCE_HOT_FRACTION,
+    CANCEL_EVIDENCE_PRESENT,
+    CANCEL_EVIDENCE_OFFSET_HZ,
+    CANCEL_EVIDENCE_COHERENCE
+};
+
+/* What a second carrier shows in the gaps of a given estimate. */
 uint64_t cancel_second_carrier_evidence(const float *iq, size_t iq_len, double fs,
                                         double carrier_hz, double carrier_step_hz,
                                         const double *elements, size_t elements_len, size_t element_count,
                                         const double *fits, size_t fits_len, size_t fit_count,
                                         double *work, size_t work_len, double *figures);
+
+/* The figures of cancel_classify: an enum cancel_hypothesis, and its offset, 0 but for TWO_SIGNAL_CW. */
+enum cancel_classify_figure {
+    CANCEL_CLASSIFY_HYPOTHESIS,
+    CANCEL_CLASSIFY_OFFSET_HZ
+};
+
+/*
+ * The hypothesis that an evidence supports, NaN included. present says whether there is an offset: 0 no, anything else
+ * yes; offset_hz counts only where there is one.
+ */
+uint64_t cancel_classify(uint64_t gap_blocks, double hot_fraction, uint64_t present, double offset_hz,
+                         double coherence, double *figures);
+
+/*
+ * Takes a given estimate off the recording in buf: each fit in order, on the samples that its span covers. All other
+ * samples keep every bit.
+ */
+uint64_t cancel_subtract(float *buf, size_t buf_len, double fs, double carrier_hz, double carrier_step_hz,
+                         const double *elements, size_t elements_len, size_t element_count,
+                         const double *fits, size_t fits_len, size_t fit_count);
+
+/*
+ * The figures of cancel_run. BLOCKS are blocks of window samples, and EDGE, INTERIOR, GAP and OTHER count those of each
+ * class. TAKEN is 0 or 1.
+ */
+enum cancel_run_figure {
+    CANCEL_RUN_SAMPLES,
+    CANCEL_RUN_WINDOW,
+    CANCEL_RUN_KEY_DOWNS,
+    CANCEL_RUN_LISTED,
+    CANCEL_RUN_SHORT,
+    CANCEL_RUN_FITTED,
+    CANCEL_RUN_SKIPPED,
+    CANCEL_RUN_AIRTIME,
+    CANCEL_RUN_BLOCKS,
+    CANCEL_RUN_EDGE,
+    CANCEL_RUN_INTERIOR,
+    CANCEL_RUN_GAP,
+    CANCEL_RUN_OTHER,
+    CANCEL_RUN_CARRIER_HZ,
+    CANCEL_RUN_CARRIER_STEP_HZ,
+    CANCEL_RUN_EDGE_OVER_NEIGHBOUR_DB,
+    CANCEL_RUN_INTERIOR_OVER_NEIGHBOUR_DB,
+    CANCEL_RUN_RESIDUAL_EDGE_BLOCKS,
+    CANCEL_RUN_RESIDUAL_INTERIOR_BLOCKS,
+    CANCEL_RUN_RESIDUAL_GAP_BLOCKS,
+    CANCEL_RUN_EVIDENCE_GAP_BLOCKS,
+    CANCEL_RUN_HOT_FRACTION,
+    CANCEL_RUN_PRESENT,
+    CANCEL_RUN_OFFSET_HZ,
+    CANCEL_RUN_COHERENCE,
+    CANCEL_RUN_HYPOTHESIS,
+    CANCEL_RUN_HYPOTHESIS_OFFSET_HZ,
+    CANCEL_RUN_TAKEN
+};
+
+/*
+ * The whole: estimate, residual check, evidence, hypothesis; then the strong sender is taken off the recording in buf
+ * where the hypothesis is TWO_SIGNAL_CW, the fits are enough, the carrier step is small and the residual is clean. If
+ * TAKEN is 0, buf keeps every bit. elements receives the listed ones and fits the fitted ones, both of the second pass.
+ */
+uint64_t cancel_run(float *buf, size_t buf_len, double fs, double hint_hz,
+                    double *elements, size_t elements_len, double *fits, size_t fits_len,
+                    double *work, size_t work_len, double *figures);
 
 /* The arithmetic that the calls are made of, open for tests. */
 double cancel_sin(double x);

@@ -1,4 +1,4 @@
--- `subtract`: what it goes on with where every answer is yes. Assumes nothing.
+-- `subtract`: what it goes on with where every answer is yes, and what its promise says. Assumes nothing.
 use Prim.Native.Nat.{ℕ, _*_, _≤_}
 use mathlib.Core.Path.{_≡_, refl}
 use mathlib.Core.List.{List}
@@ -6,11 +6,12 @@ use lib.ListN.{length}
 use lib.Ieee.{Float}
 use Rattle.row.specs.Samples.{Iq}
 use Rattle.fits.specs.List.{FIT}
+use Rattle.cancel.specs.Answers.{refused}
 use Rattle.cancel.specs.Questions.{firstNo}
-use Rattle.cancel.specs.Removal.{subtractQuestions}
+use Rattle.cancel.specs.Removal.{subtractQuestions, subtractRule}
 use Rattle.cancel.proofs.FirstNo.{yes-at}
 use Rattle.cancel.proofs.Given.{estimate-sized}
-use Rattle.cancel.proofs.Accepted.{recording-is}
+use Rattle.cancel.proofs.Accepted.{recording-is, refused-by}
 
 pub record SubtractAccepted (buf fits : List Float) (fit-count : ℕ) : Type 0 where
   pub short : length buf ≤ 2097152
@@ -24,3 +25,9 @@ subtract-accepted buf fs hz step elements element-count fits fit-count all =
       short = recording-is buf (yes 1) (yes 2) .short;
       fit-room = estimate-sized hz step elements element-count fits fit-count (yes 3) .fit-room;
     }
+
+-- what its promise says of a refusal
+pub subtract-refused : (buf : List Float) (fs hz step : Float) (elements : List Float) (element-count : ℕ) (fits : List Float) (fit-count : ℕ)
+    (n : ℕ) (lent : List (List Float)) → refused n lent ≡ subtractRule buf fs hz step elements element-count fits fit-count → n ≡ 0 → ⊥
+unfolding subtractRule
+subtract-refused buf fs hz step elements element-count fits fit-count n lent e = refused-by _ _ _ n lent e

@@ -1,6 +1,6 @@
 -- The two ways out of a call from C, by what the call of crate cancel answered. Assumes nothing.
 use Prim.Native.Nat.{ℕ, zero, suc}
-use mathlib.Core.Path.{_≡_, refl, ap}
+use mathlib.Core.Path.{_≡_, refl, ap, _∙_}
 use mathlib.Core.List.{List, _∷_}
 use lib.Ieee.{Float}
 use Rattle.elements.specs.declared.element.KeyedElement.{KeyedElement}
@@ -16,6 +16,10 @@ refuses : {A : Type 0} (n : ℕ) (a : A) (lent : List (List Float)) → (n ≡ 0
 unfolding byNumber
 refuses zero a lent h = absurd (h refl)
 refuses (suc n) a lent h = refl
+
+-- a refusal by a call that answers no figures
+pub refused-way : {A : Type 0} (n : ℕ) (a : A) (lent : List (List Float)) (rule : Outcome A) → refused n lent ≡ rule → (n ≡ 0 → ⊥) → byNumber n a lent ≡ rule
+refused-way n a lent rule e h = refuses n a lent h ∙ e
 
 module _ {A B : Type 0} (told : A → Called B) (figures : List Float) (rule : Outcome A) (called : Called B) where
   pub refused-call : (n : ℕ) (lent : List (List Float)) → refused n lent ≡ rule → (n ≡ 0 → ⊥) → byNumber n called (figures ∷ lent) ≡ forC told figures rule

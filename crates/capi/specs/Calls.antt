@@ -15,7 +15,8 @@ use Rattle.cancel.specs.Find.{FindResult, findRule}
 use Rattle.cancel.specs.Fit.{FitResult, fitRule}
 use Rattle.cancel.specs.Estimate.{EstimateResult, estimateRule}
 
--- The result of an accepted call: its figures, what its lists hand out, of type A, and the length of the work slice.
+-- The result of an accepted call: its figures, what its lists hand out, of type A (with a run's buffer), and the length
+-- of the work slice.
 pub record Called (A : Type 0) : Type 0 where
   pub figures : List Float
   pub lists : A

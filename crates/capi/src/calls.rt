@@ -1,4 +1,5 @@
-// The calls of the program, for C: each returns 0 or a refusal's number, and writes figures where it returns 0.
+// find_elements, fit_elements and estimate_strong, for C: each returns 0 or a refusal's number, and writes figures where
+// it returns 0.
 use cancel::EstimateAnswer;
 use cancel::FindAnswer;
 use cancel::FitAnswer;

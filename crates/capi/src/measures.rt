@@ -48,7 +48,7 @@ pub extern "C" fn cancel_residual_check(
 }
 
 // 1.0 where the offset is present, 0.0 where it is absent.
-fn present(o: Offset) -> f64
+pub fn present(o: Offset) -> f64
     ensures { λ r. ⌜ r ≡ presentOf o ⌝ }
 {
     match o {
@@ -58,7 +58,7 @@ fn present(o: Offset) -> f64
 }
 
 // The offset, 0.0 where it is absent.
-fn hertz(o: Offset) -> f64
+pub fn hertz(o: Offset) -> f64
     ensures { λ r. ⌜ r ≡ hertzOf o ⌝ }
 {
     match o {
