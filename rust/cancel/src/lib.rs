@@ -1,0 +1,65 @@
+//! The strong sender of a recording, and the gaps it leaves: a package that goes where the module cancel.rs was.
+//!
+//! Names, types and answers are the module's, to the last bit of every number; the work is done by a static library in
+//! which every function is proved to meet its contract (`include/cancel.h`). What the library does not accept it
+//! refuses, and then nothing has changed: a call answers a `Result` with a [`Refusal`].
+//!
+//! There are two forms of each call.
+//!
+//! * The plain functions ([`find_elements`], [`estimate_strong`], [`run`], ..) answer `Vec`s, as the module did.
+//! * A [`Workspace`] holds the lists and the work slice that the library is lent. It is made once and used again from
+//!   call to call, so that no call on a receiver's path allocates.
+//!
+//! ```
+//! use cancel::{run, Complex32, Hypothesis};
+//!
+//! // 300 samples at 3,000 a second, with one key-down.
+//! let mut buf = vec![Complex32::new(0.0, 0.0); 300];
+//! buf[100..200].fill(Complex32::new(1.0, 0.0));
+//!
+//! let answer = run(&mut buf, 3_000.0, 0.0)?;
+//! assert_eq!((answer.figures.key_downs, answer.figures.listed, answer.figures.fitted), (1, 1, 1));
+//! assert_eq!((answer.elements[0].up, answer.elements[0].down), (96, 197));
+//! assert_eq!(answer.figures.hypothesis, Hypothesis::OneSignal);
+//! assert!(!answer.figures.taken);
+//! # Ok::<(), cancel::Refusal>(())
+//! ```
+//!
+//! A recording is `&[Complex32]` and goes in without a copy: the library reads it, or writes it, where it stands.
+
+#![deny(unsafe_code, missing_docs)]
+
+mod answers;
+mod constants;
+#[allow(unsafe_code)]
+mod linked;
+mod plain;
+mod records;
+mod refusal;
+#[cfg(feature = "rows")]
+mod rows;
+mod workspace;
+
+pub use answers::{Hypothesis, KeyDownCounts, ResidualCheck, Run, RunFigures, SecondCarrierEvidence};
+pub use constants::*;
+pub use num_complex::{Complex32, Complex64};
+pub use plain::{
+    classify, estimate_strong, find_elements, fit_elements, residual_check, run, second_carrier_evidence, subtract,
+};
+pub use records::{ElementFit, KeyDown, KeyedElement, StrongEstimate};
+pub use refusal::Refusal;
+#[cfg(feature = "rows")]
+pub use rows::{amplitude_row, block_classes, AmplitudeRow, BlockClass};
+pub use workspace::{Estimate, Fitted, Found, Ran, Workspace};
+
+/// Which library this package was linked with.
+#[derive(Debug, Clone, Copy, PartialEq, Eq)]
+pub struct Library {
+    /// The commit that it was built from, as `./install` wrote it down; "unknown" where it stands beside no such note.
+    pub commit: &'static str,
+    /// The SHA-256 of the archive that was linked.
+    pub sha256: &'static str,
+}
+
+/// The library that this package was linked with.
+pub const LIBRARY: Library = Library { commit: env!("CANCEL_COMMIT"), sha256: env!("CANCEL_SHA256") };

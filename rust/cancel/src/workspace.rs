@@ -1,0 +1,317 @@
+//! The calls over lists that are lent again and again.
+
+use crate::answers::{KeyDownCounts, ResidualCheck, RunFigures, SecondCarrierEvidence};
+use crate::linked::{self, Given};
+use crate::records::{self, ElementFit, KeyDown, KeyedElement, StrongEstimate, ELEMENT, FIT};
+use crate::refusal::Refusal;
+use num_complex::Complex32;
+
+/// The most samples that a call accepts.
+const MOST_SAMPLES: usize = 1 << 20;
+
+/// The lists and the work slice that the library is lent.
+///
+/// It is made once, for the longest recording that will come, and used from call to call: then no call allocates. A
+/// call on a longer recording is refused with [`Refusal::Places`] or [`Refusal::Work`]; [`Workspace::make_room`] helps.
+///
+/// ```
+/// use cancel::{Complex32, Refusal, Workspace};
+///
+/// fn receive(workspace: &mut Workspace, buf: &mut [Complex32]) -> Result<bool, Refusal> {
+///     let ran = workspace.run(buf, 48_000.0, 1_200.0)?;
+///     Ok(ran.figures.taken)
+/// }
+///
+/// let mut workspace = Workspace::with_room(96_000, 48_000.0);
+/// let mut buf = vec![Complex32::new(0.0, 0.0); 96_000];
+/// assert_eq!(receive(&mut workspace, &mut buf), Ok(false));
+/// assert_eq!(receive(&mut workspace, &mut buf[..5_000]), Ok(false));
+///
+/// let mut longer = vec![Complex32::new(0.0, 0.0); 200_000];
+/// assert_eq!(receive(&mut workspace, &mut longer), Err(Refusal::Places));
+/// ```
+#[derive(Debug, Clone, Default)]
+pub struct Workspace {
+    elements: Vec<f64>,
+    fits: Vec<f64>,
+    work: Vec<f64>,
+}
+
+impl Workspace {
+    /// A workspace with no room yet.
+    pub fn new() -> Workspace {
+        Workspace::default()
+    }
+
+    /// A workspace for recordings of up to so many samples at this rate. At a rate that is refused it has no room, and
+    /// none is needed: a call refuses the rate first.
+    pub fn with_room(samples: usize, fs: f64) -> Workspace {
+        let mut workspace = Workspace::new();
+        workspace.make_room(samples, fs);
+        workspace
+    }
+
+    /// Makes room for recordings of up to so many samples at this rate. Room that is there stays.
+    pub fn make_room(&mut self, samples: usize, fs: f64) {
+        let places = steps(samples, fs) / 2;
+        at_least(&mut self.elements, ELEMENT * places);
+        at_least(&mut self.fits, FIT * places);
+        self.make_work(samples, fs);
+    }
+
+    /// Room for calls that fill no list.
+    pub(crate) fn make_work(&mut self, samples: usize, fs: f64) {
+        at_least(&mut self.work, 4 * steps(samples, fs));
+    }
+
+    /// Room for a fit of each of so many given elements.
+    pub(crate) fn make_places(&mut self, elements: usize) {
+        at_least(&mut self.fits, FIT * elements);
+    }
+
+    /// Finds the key-down elements of the carrier at `carrier_hz`, an offset from the recording's centre.
+    ///
+    /// ```
+    /// use cancel::{Complex32, Workspace};
+    ///
+    /// let mut recording = vec![Complex32::new(0.0, 0.0); 300];
+    /// recording[100..200].fill(Complex32::new(1.0, 0.0));
+    ///
+    /// let mut workspace = Workspace::with_room(300, 3_000.0);
+    /// let found = workspace.find_elements(&recording, 3_000.0, 0.0)?;
+    /// assert_eq!((found.counts.key_downs, found.counts.airtime), (1, 101));
+    /// let first = found.elements().next().unwrap();
+    /// assert_eq!((first.up, first.down, first.element.start), (96, 197, 99.5));
+    /// # Ok::<(), cancel::Refusal>(())
+    /// ```
+    pub fn find_elements(&mut self, iq: &[Complex32], fs: f64, carrier_hz: f64) -> Result<Found<'_>, Refusal> {
+        let figures = linked::find_elements(iq, fs, carrier_hz, &mut self.elements, &mut self.work)?;
+        Ok(Found { counts: KeyDownCounts::of(&figures), elements: &self.elements })
+    }
+
+    /// Fits the gain and the phase slope of each given element that is long enough. The elements are written into the
+    /// workspace; it allocates where they are more than it has room for.
+    pub fn fit_elements(
+        &mut self,
+        iq: &[Complex32],
+        fs: f64,
+        carrier_hz: f64,
+        els: &[KeyedElement],
+    ) -> Result<Fitted<'_>, Refusal> {
+        self.write_elements(els);
+        self.make_places(els.len());
+        let (elements, fits, work) = (&self.elements, &mut self.fits, &mut self.work);
+        let [fitted] = linked::fit_elements(iq, fs, carrier_hz, elements, els.len(), fits, work)?;
+        Ok(Fitted { count: fitted as usize, fits: &self.fits })
+    }
+
+    /// Finds, fits, refines the carrier once, finds and fits again at the refined carrier. The estimate stays in the
+    /// workspace and is measured or taken off from there.
+    ///
+    /// ```
+    /// use cancel::{classify, Complex32, Hypothesis, Workspace};
+    ///
+    /// let mut recording = vec![Complex32::new(0.0, 0.0); 300];
+    /// recording[100..200].fill(Complex32::new(1.0, 0.0));
+    ///
+    /// let mut workspace = Workspace::with_room(300, 3_000.0);
+    /// let mut estimate = workspace.estimate_strong(&recording, 3_000.0, 0.0)?;
+    /// assert_eq!(estimate.fits().len(), 1);
+    /// let evidence = estimate.second_carrier_evidence(&recording)?;
+    /// assert_eq!(classify(&evidence), Hypothesis::OneSignal);
+    /// estimate.subtract(&mut recording)?;
+    /// assert!(recording[150].norm() < 1e-6);
+    /// # Ok::<(), cancel::Refusal>(())
+    /// ```
+    pub fn estimate_strong(
+        &mut self,
+        iq: &[Complex32],
+        fs: f64,
+        carrier_hint_hz: f64,
+    ) -> Result<Estimate<'_>, Refusal> {
+        let (elements, fits, work) = (&mut self.elements, &mut self.fits, &mut self.work);
+        let figures = linked::estimate_strong(iq, fs, carrier_hint_hz, elements, fits, work)?;
+        let counts = KeyDownCounts::of(&figures[2..6]);
+        Ok(Estimate {
+            fs,
+            carrier_hz: figures[0],
+            carrier_step_hz: figures[1],
+            element_count: counts.listed,
+            fit_count: figures[6] as usize,
+            workspace: self,
+        })
+    }
+
+    /// Takes a given estimate into the workspace, to be measured or taken off. It allocates where the estimate's lists
+    /// are longer than there is room for.
+    pub fn hold(&mut self, fs: f64, est: &StrongEstimate) -> Estimate<'_> {
+        self.write_elements(&est.elements);
+        at_least(&mut self.fits, FIT * est.fits.len());
+        for (fit, place) in est.fits.iter().zip(self.fits.chunks_exact_mut(FIT)) {
+            fit.write(place);
+        }
+        Estimate {
+            fs,
+            carrier_hz: est.carrier_hz,
+            carrier_step_hz: est.carrier_step_hz,
+            element_count: est.elements.len(),
+            fit_count: est.fits.len(),
+            workspace: self,
+        }
+    }
+
+    /// Estimates, measures, decides, and takes the strong sender off the recording where the rules allow it. Where they
+    /// do not, and where it is refused, the recording keeps every bit.
+    pub fn run(&mut self, buf: &mut [Complex32], fs: f64, hint_hz: f64) -> Result<Ran<'_>, Refusal> {
+        let (elements, fits, work) = (&mut self.elements, &mut self.fits, &mut self.work);
+        let figures = linked::run(buf, fs, hint_hz, elements, fits, work)?;
+        Ok(Ran { figures: RunFigures::of(&figures), elements: &self.elements, fits: &self.fits })
+    }
+
+    fn write_elements(&mut self, els: &[KeyedElement]) {
+        at_least(&mut self.elements, ELEMENT * els.len());
+        for (element, place) in els.iter().zip(self.elements.chunks_exact_mut(ELEMENT)) {
+            element.write(place);
+        }
+    }
+}
+
+/// B of a recording of so many samples. More than are accepted need no room, since the call refuses them first.
+pub(crate) fn steps(samples: usize, fs: f64) -> usize {
+    linked::blocks(samples.min(MOST_SAMPLES), fs)
+}
+
+/// Grows a list to so many numbers, if it is shorter.
+fn at_least(list: &mut Vec<f64>, numbers: usize) {
+    if list.len() < numbers {
+        list.resize(numbers, 0.0);
+    }
+}
+
+/// What a find answers.
+#[derive(Debug, Clone, Copy)]
+pub struct Found<'w> {
+    /// How many key-downs there are.
+    pub counts: KeyDownCounts,
+    elements: &'w [f64],
+}
+
+impl<'w> Found<'w> {
+    /// The listed key-downs, in their order.
+    pub fn elements(&self) -> impl ExactSizeIterator<Item = KeyDown> + 'w {
+        records::key_downs(self.elements, self.counts.listed)
+    }
+}
+
+/// What a fit answers.
+#[derive(Debug, Clone, Copy)]
+pub struct Fitted<'w> {
+    count: usize,
+    fits: &'w [f64],
+}
+
+impl<'w> Fitted<'w> {
+    /// The fits, in the order of their elements.
+    pub fn fits(&self) -> impl ExactSizeIterator<Item = ElementFit> + 'w {
+        records::fits(self.fits, self.count)
+    }
+}
+
+/// An estimate that a workspace holds: the workspace is lent to it for as long as it is used.
+#[derive(Debug)]
+pub struct Estimate<'w> {
+    fs: f64,
+    carrier_hz: f64,
+    carrier_step_hz: f64,
+    element_count: usize,
+    fit_count: usize,
+    workspace: &'w mut Workspace,
+}
+
+impl Estimate<'_> {
+    /// Offset from the recording's centre, refined once.
+    pub fn carrier_hz(&self) -> f64 {
+        self.carrier_hz
+    }
+
+    /// The refined carrier less the hint.
+    pub fn carrier_step_hz(&self) -> f64 {
+        self.carrier_step_hz
+    }
+
+    /// The listed key-downs. Those of an estimate that was given have no positions: both are 0.
+    pub fn elements(&self) -> impl ExactSizeIterator<Item = KeyDown> + '_ {
+        records::key_downs(&self.workspace.elements, self.element_count)
+    }
+
+    /// The fits, in the order of their elements.
+    pub fn fits(&self) -> impl ExactSizeIterator<Item = ElementFit> + '_ {
+        records::fits(&self.workspace.fits, self.fit_count)
+    }
+
+    /// The same as a value of its own.
+    pub fn to_strong(&self) -> StrongEstimate {
+        StrongEstimate {
+            carrier_hz: self.carrier_hz,
+            carrier_step_hz: self.carrier_step_hz,
+            fits: self.fits().collect(),
+            elements: self.elements().map(|e| e.element).collect(),
+        }
+    }
+
+    /// What taking it off would leave of the strong sender.
+    pub fn residual_check(&mut self, iq: &[Complex32]) -> Result<ResidualCheck, Refusal> {
+        let fs = self.fs;
+        let (given, work) = self.given();
+        Ok(ResidualCheck::of(&linked::residual_check(iq, fs, &given, work)?))
+    }
+
+    /// What else is in its gaps.
+    pub fn second_carrier_evidence(&mut self, iq: &[Complex32]) -> Result<SecondCarrierEvidence, Refusal> {
+        let fs = self.fs;
+        let (given, work) = self.given();
+        Ok(SecondCarrierEvidence::of(&linked::second_carrier_evidence(iq, fs, &given, work)?))
+    }
+
+    /// Takes it off.
+    pub fn subtract(&mut self, buf: &mut [Complex32]) -> Result<(), Refusal> {
+        let fs = self.fs;
+        let (given, _) = self.given();
+        linked::subtract(buf, fs, &given)
+    }
+
+    /// As it is handed in, and the work slice.
+    pub(crate) fn given(&mut self) -> (Given<'_>, &mut [f64]) {
+        let Workspace { elements, fits, work } = &mut *self.workspace;
+        let given = Given {
+            carrier_hz: self.carrier_hz,
+            carrier_step_hz: self.carrier_step_hz,
+            elements,
+            element_count: self.element_count,
+            fits,
+            fit_count: self.fit_count,
+        };
+        (given, work)
+    }
+}
+
+/// What a run answers.
+#[derive(Debug, Clone, Copy)]
+pub struct Ran<'w> {
+    /// The figures.
+    pub figures: RunFigures,
+    elements: &'w [f64],
+    fits: &'w [f64],
+}
+
+impl<'w> Ran<'w> {
+    /// The listed key-downs, in their order.
+    pub fn elements(&self) -> impl ExactSizeIterator<Item = KeyDown> + 'w {
+        records::key_downs(self.elements, self.figures.listed)
+    }
+
+    /// The fits, in the order of their elements.
+    pub fn fits(&self) -> impl ExactSizeIterator<Item = ElementFit> + 'w {
+        records::fits(self.fits, self.figures.fitted)
+    }
+}

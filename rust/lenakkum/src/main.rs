@@ -1,0 +1,27 @@
+//! `lenakkum`: runs recordings from files through the proved library and reports what it found.
+//!
+//! Status 0: every recording was run. 1: one was refused by document 01's questions. 2: the command line, a file or an
+//! output was wrong; one line says what.
+
+mod args;
+#[cfg(feature = "pictures")]
+mod picture;
+mod problem;
+mod reading;
+mod report;
+mod runs;
+mod sigmf;
+mod writing;
+
+use std::process::ExitCode;
+
+fn main() -> ExitCode {
+    let said = args::parse().and_then(|args| match args {
+        args::Wanted::Text(text) => runs::print(&text).map(|()| ExitCode::SUCCESS),
+        args::Wanted::Run(run) => runs::run(&run),
+    });
+    said.unwrap_or_else(|problem| {
+        eprintln!("lenakkum: {problem}");
+        problem.status()
+    })
+}

@@ -1,0 +1,123 @@
+//! The picture of a run: the amplitude row with its threshold, what was found in it, and the neighbour's envelope
+//! before and after. All that it shows is the proved library's: figures, lists, amplitude rows and classes.
+
+mod draw;
+mod lanes;
+mod trace;
+
+use crate::problem::Problem;
+use crate::writing::Staged;
+use cancel::{amplitude_row, block_classes, AmplitudeRow, KeyDown, Ran, Refusal, RunFigures, StrongEstimate};
+use num_complex::Complex32;
+use plotters::prelude::{BitMapBackend, IntoDrawingArea, SVGBackend};
+use std::path::Path;
+
+/// What a picture is made of.
+struct Subject<'a> {
+    name: &'a str,
+    rate: f64,
+    before: &'a [Complex32],
+    after: &'a [Complex32],
+    figures: RunFigures,
+    elements: Vec<KeyDown>,
+    estimate: StrongEstimate,
+}
+
+/// What it shows.
+struct Shown<'a> {
+    of: &'a Subject<'a>,
+    /// Lines, rather than pixels.
+    vectors: bool,
+    /// Seconds of the recording.
+    seconds: f64,
+    /// At the strong sender's carrier.
+    row: AmplitudeRow,
+    lanes: Vec<lanes::Lane>,
+    neighbour: Option<Neighbour>,
+}
+
+/// The amplitude row at the neighbour's offset.
+struct Neighbour {
+    offset_hz: f64,
+    before: AmplitudeRow,
+    after: AmplitudeRow,
+}
+
+/// Picture sizes, in pixels.
+const SIZE: (u32, u32) = (1_500, 1_050);
+
+/// A picture's kinds, by the ending of its name.
+#[derive(Clone, Copy, PartialEq)]
+enum Kind {
+    Svg,
+    Png,
+}
+
+fn kind(path: &Path) -> Result<Kind, Problem> {
+    match path.extension().and_then(|e| e.to_str()) {
+        Some("svg") => Ok(Kind::Svg),
+        Some("png") => Ok(Kind::Png),
+        _ => Err(Problem::with(path.display(), "a picture's name ends in .svg or .png")),
+    }
+}
+
+/// Is this the name of a picture?
+pub fn checked(path: &Path) -> Result<(), Problem> {
+    kind(path).map(|_| ())
+}
+
+/// Draws the picture of a run beside its place.
+pub fn of_run(
+    path: &Path,
+    name: &str,
+    rate: f64,
+    before: &[Complex32],
+    after: &[Complex32],
+    ran: &Ran<'_>,
+) -> Result<Staged, Problem> {
+    let figures = ran.figures;
+    let estimate = StrongEstimate {
+        carrier_hz: figures.carrier_hz,
+        carrier_step_hz: figures.carrier_step_hz,
+        fits: ran.fits().collect(),
+        elements: ran.elements().map(|k| k.element).collect(),
+    };
+    staged(path, &Subject { name, rate, before, after, figures, elements: ran.elements().collect(), estimate })
+}
+
+fn staged(path: &Path, subject: &Subject<'_>) -> Result<Staged, Problem> {
+    let kind = kind(path)?;
+    let shown =
+        shown(subject, kind == Kind::Svg).map_err(|refusal| Problem::Refused(subject.name.to_string(), refusal))?;
+    Staged::new(path, |beside| match kind {
+        Kind::Svg => draw::drawn(&SVGBackend::new(beside, SIZE).into_drawing_area(), &shown),
+        Kind::Png => draw::drawn(&BitMapBackend::new(beside, SIZE).into_drawing_area(), &shown),
+    })
+}
+
+fn shown<'a>(subject: &'a Subject<'a>, vectors: bool) -> Result<Shown<'a>, Refusal> {
+    let (rate, carrier_hz) = (subject.rate, subject.figures.carrier_hz);
+    let classes = block_classes(subject.before.len(), rate, &subject.estimate)?;
+    // A refined carrier may lie beyond half the rate, where a row is refused. There is then none to show.
+    let row = row(subject.before, rate, carrier_hz)?.unwrap_or(AmplitudeRow { amplitudes: vec![], threshold: None });
+    let neighbour = match subject.figures.evidence.offset_hz {
+        Some(offset_hz) => {
+            let at = carrier_hz + offset_hz;
+            let (before, after) = (self::row(subject.before, rate, at)?, self::row(subject.after, rate, at)?);
+            before.zip(after).map(|(before, after)| Neighbour { offset_hz, before, after })
+        }
+        None => None,
+    };
+    let lanes = lanes::all(subject, &row, &classes);
+    let seconds = subject.before.len().max(1) as f64 / rate;
+    Ok(Shown { of: subject, vectors, seconds, row, lanes, neighbour })
+}
+
+/// The row at a carrier; none where the library takes no such carrier, or no such samples.
+fn row(iq: &[Complex32], rate: f64, carrier_hz: f64) -> Result<Option<AmplitudeRow>, Refusal> {
+    match amplitude_row(iq, rate, carrier_hz) {
+        Ok(row) => Ok(Some(row)),
+        Err(Refusal::Hint) | Err(Refusal::Sample) => Ok(None),
+        Err(refusal) => Err(refusal),
+    }
+}

@@ -1,0 +1,51 @@
+//! Files that are written whole or not at all.
+
+use crate::problem::Problem;
+use num_complex::Complex32;
+use std::fs::{self, File};
+use std::io::Write;
+use std::path::{Path, PathBuf};
+use std::process;
+
+/// A file that stands complete beside the place it is meant for, and is gone unless it is put there.
+pub struct Staged {
+    path: PathBuf,
+    beside: PathBuf,
+}
+
+impl Staged {
+    /// Fills a file beside the place, by its path. It has the same extension as the place.
+    pub fn new(path: &Path, fill: impl FnOnce(&Path) -> Result<(), String>) -> Result<Staged, Problem> {
+        let wrong = |why: String| Problem::with(path.display(), why);
+        let name = path.file_name().ok_or_else(|| wrong("it is not the name of a file".to_string()))?;
+        if path.is_dir() {
+            return Err(wrong("it is a folder".to_string()));
+        }
+        let hidden = format!(".{}-{}", process::id(), name.to_string_lossy());
+        let staged = Staged { beside: path.with_file_name(hidden), path: path.to_path_buf() };
+        fill(&staged.beside).map_err(wrong)?;
+        Ok(staged)
+    }
+
+    /// The samples as little-endian f32 pairs.
+    pub fn samples(path: &Path, samples: &[Complex32]) -> Result<Staged, Problem> {
+        let bytes: Vec<u8> = samples.iter().flat_map(|x| [x.re, x.im]).flat_map(f32::to_le_bytes).collect();
+        Staged::new(path, |beside| {
+            File::create(beside)
+                .and_then(|mut file| file.write_all(&bytes).and_then(|()| file.sync_all()))
+                .map_err(|e| e.to_string())
+        })
+    }
+
+    /// Puts it in its place.
+    pub fn put(self) -> Result<(), Problem> {
+        fs::rename(&self.beside, &self.path).map_err(|e| Problem::with(self.path.display(), e))
+    }
+}
+
+impl Drop for Staged {
+    /// After `put` there is nothing left to remove.
+    fn drop(&mut self) {
+        let _ = fs::remove_file(&self.beside);
+    }
+}
