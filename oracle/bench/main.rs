@@ -204,7 +204,7 @@ fn rows(rounds: usize) {
     println!("By row, 2^20 samples, {fs} a second (step 1): {UNIT}{rounds} rounds");
     head("", &["library", RUST[0], RUST[1]]);
     let rising = |k: usize| k as f32 / LONGEST as f32;
-    let mut row = |what, iq| find_and_run(what, iq, fs, 0.0, rounds);
+    let row = |what, iq| find_and_run(what, iq, fs, 0.0, rounds);
     row("zero", real(LONGEST, |_| 0.0));
     row("equal", real(LONGEST, |_| 1.0));
     row("rising", real(LONGEST, rising));

@@ -20,6 +20,8 @@ pub type Compared = Result<(), Difference>;
 pub struct Asker {
     pub tally: Tally,
     pub random: Random,
+    /// The one call that is compared; none named: all.
+    pub only: Option<String>,
     /// What the last run that took has left in the buffer.
     pub left: Option<Vec<f32>>,
 }
@@ -28,6 +30,9 @@ impl Asker {
     /// Compares each call that the scene is for and the library has.
     pub fn all(&mut self, scene: &Scene) -> Compared {
         for call in CALLS.iter().filter(|c| scene.is_for(c.name)) {
+            if !self.asks(call.name) {
+                continue;
+            }
             let Some(ask) = library::ask(call.name) else { continue };
             let mut handed = Handed::lend(call, scene, &mut self.random);
             let status = ask(&mut handed);
@@ -39,6 +44,11 @@ impl Asker {
             }
         }
         Ok(())
+    }
+
+    /// Is this call or function compared?
+    pub fn asks(&self, name: &str) -> bool {
+        self.only.as_deref().is_none_or(|only| only == name)
     }
 }
 

@@ -32,12 +32,14 @@ const TOLD: u64 = 10;
 struct Options {
     seconds: u64,
     seed: u64,
+    /// The one call that is compared; none named: all.
+    call: Option<String>,
     /// The example programs that are linked with the same library.
     receivers: Vec<Receiver>,
 }
 
 fn options() -> Result<Options, String> {
-    let mut options = Options { seconds: 30, seed: 1, receivers: Vec::new() };
+    let mut options = Options { seconds: 30, seed: 1, call: None, receivers: Vec::new() };
     let mut words = std::env::args().skip(1);
     while let Some(word) = words.next() {
         let value = words.next().ok_or(format!("{word}: a value is to follow"))?;
@@ -45,8 +47,12 @@ fn options() -> Result<Options, String> {
         match word.as_str() {
             "--seconds" => options.seconds = whole()?,
             "--seed" => options.seed = whole()?,
+            "--call" if library::present(&value) => options.call = Some(value),
+            "--call" => return Err(format!("{value}: the library has no such call")),
             "--receiver" => options.receivers.push(Receiver::new(&value)),
-            _ => return Err(format!("{word} is not known; --seconds N, --seed S and --receiver PROGRAM are")),
+            _ => {
+                return Err(format!("{word} is not known; --seconds N, --seed S, --call NAME, --receiver PROGRAM are"))
+            }
         }
     }
     Ok(options)
@@ -68,7 +74,8 @@ fn main() -> ExitCode {
         eprintln!("compare: not declared in oracle/src/calls.rs: {}", library::undeclared().join(", "));
         return ExitCode::from(2);
     }
-    let mut asker = Asker { tally: Default::default(), random: Random::new(options.seed), left: None };
+    let only = options.call.clone();
+    let mut asker = Asker { tally: Default::default(), random: Random::new(options.seed), only, left: None };
     let (cases, found) = compare(&mut asker, &options);
     asker.tally.print(found.as_ref().map(|(_, d)| d.call));
     match found {
@@ -107,17 +114,26 @@ fn compare(asker: &mut Asker, options: &Options) -> (u64, Option<(String, Differ
             return (0, named(difference, &format!("{what}: {last}")));
         }
     }
-    eprintln!("compare: two calls at once");
-    if let Err(difference) = not_stopping(|| at_once::two(seed)) {
-        return (0, named(difference, "two calls at once"));
-    }
-    for receiver in &options.receivers {
-        eprintln!("compare: {}", receiver.name());
-        if let Err(difference) = not_stopping(|| receiver.all(seed, &mut asker.tally)) {
-            return (0, named(difference, receiver.name()));
+    if options.call.is_none() {
+        if let Err((what, difference)) = together(asker, options) {
+            return (0, named(difference, &what));
         }
     }
     by_seed(asker, options)
+}
+
+/// What is asked of all calls together: two of them at once, and the programs that use them. On a difference, in what.
+fn together(asker: &mut Asker, options: &Options) -> Result<(), (String, Difference)> {
+    let what = "two calls at once";
+    eprintln!("compare: {what}");
+    not_stopping(|| at_once::two(options.seed)).map_err(|difference| (what.into(), difference))?;
+    for receiver in &options.receivers {
+        let what = receiver.name();
+        eprintln!("compare: {what}");
+        not_stopping(|| receiver.all(options.seed, &mut asker.tally))
+            .map_err(|difference| (what.into(), difference))?;
+    }
+    Ok(())
 }
 
 /// Cases by seed, until the time is over.

@@ -95,7 +95,7 @@ impl Asker {
     /// Some angles at once, with room for fewer, as many or more, and between guards.
     fn angles(&mut self) -> Compared {
         const CALL: &str = "cancel_cos_sin";
-        if !library::present(CALL) {
+        if !library::present(CALL) || !self.asks(CALL) {
             return Ok(());
         }
         let r = &mut self.random;
@@ -142,7 +142,7 @@ impl Asker {
         library: impl Fn() -> T,
         oracle: impl Fn() -> T,
     ) -> Compared {
-        if !library::present(function) {
+        if !library::present(function) || !self.asks(function) {
             return Ok(());
         }
         let (a, b) = (library(), oracle());

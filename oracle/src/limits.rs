@@ -23,6 +23,7 @@ pub const LONGEST: usize = 1 << 20;
 /// All that are cheap.
 pub fn limits<E>() -> [Limit<E>; 13] {
     [
+        ("hypotheses at their limits", |r, ask| hypotheses(4_000, r, ask)),
         ("n around every window", windows),
         ("rates around every change of step", changes_of_step),
         ("edge table", edge_table),
@@ -35,7 +36,6 @@ pub fn limits<E>() -> [Limit<E>; 13] {
         ("samples of every size", sizes),
         ("pairs of gap blocks", pairs),
         ("runs about each condition", conditions),
-        ("hypotheses at their limits", |r, ask| hypotheses(4_000, r, ask)),
     ]
 }
 
