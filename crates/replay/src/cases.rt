@@ -1,5 +1,5 @@
-// A stored case: lends what it names and asks its call. Lists and work slice hold one number before the call, so that it
-// shows where a call wrote.
+// A stored case: lends what it names and asks its call. Lists and work slice hold one number before the call, so that
+// it shows where a call wrote.
 use crate::asked::of_case;
 use crate::calls;
 use crate::calls::Answered;

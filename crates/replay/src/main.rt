@@ -47,15 +47,14 @@ fn counted_run(tally: &mut [u64], call: usize, r: Ran) {
     add(tally, tally::CHANGED, 0, only_if(r.taken, r.changed));
 }
 
-// One record; answers whether its kind is known. Kinds from 16 on are the calls, in the order of include/cancel.h.
-fn record(
+// A record that puts numbers into what is kept; answers whether its kind is known.
+fn put(
     kind: usize,
     body: &[u8],
     iq: &mut [f32],
     left: &mut [f32],
     stored_elements: &mut [f64],
     stored_fits: &mut [f64],
-    tally: &mut [u64],
 ) -> bool {
     match kind {
         1 => kept::recording(body, iq),
@@ -64,6 +63,22 @@ fn record(
         4 => kept::floats(body, left),
         5 => kept::list(body, stored_elements),
         6 => kept::list(body, stored_fits),
+        _ => return false,
+    }
+    true
+}
+
+// The end, or a call, in the order of include/cancel.h; answers whether its kind is known.
+fn ask(
+    kind: usize,
+    body: &[u8],
+    iq: &[f32],
+    left: &[f32],
+    stored_elements: &[f64],
+    stored_fits: &[f64],
+    tally: &mut [u64],
+) -> bool {
+    match kind {
         7 => add(tally, tally::ENDS, 0, 1),
         16 => counted(tally, 0, cases::find(body, iq, stored_elements)),
         17 => counted(tally, 1, cases::fit(body, iq, stored_elements, stored_fits)),
@@ -96,6 +111,21 @@ fn record(
         _ => return false,
     }
     true
+}
+
+fn record(
+    kind: usize,
+    body: &[u8],
+    iq: &mut [f32],
+    left: &mut [f32],
+    stored_elements: &mut [f64],
+    stored_fits: &mut [f64],
+    tally: &mut [u64],
+) -> bool {
+    if kind < 7 {
+        return put(kind, body, iq, left, stored_elements, stored_fits);
+    }
+    ask(kind, body, iq, left, stored_elements, stored_fits, tally)
 }
 
 // The size of the record at a unit, 0 where it is not whole.
