@@ -1,25 +1,24 @@
-// A stored case: lends what it names and asks its call.
+// A stored case: lends what it names and asks its call. Lists and work slice hold one number before the call, so that
+// it shows where a call wrote.
 use crate::asked::of_case;
 use crate::calls;
 use crate::calls::Answered;
 use crate::calls::Ran;
-use crate::equal::lend;
+use crate::equal::LENT;
+use crate::kept::ELEMENTS;
+use crate::kept::FITS;
+use crate::kept::FLOATS;
+use crate::kept::WORK;
 use crate::kept::copied;
 use crate::units::shorter;
 
-pub fn find(
-    body: &[u8],
-    iq: &[f32],
-    stored_elements: &[f64],
-    elements: &mut [f64],
-    work: &mut [f64],
-) -> Answered {
+pub fn find(body: &[u8], iq: &[f32], stored_elements: &[f64]) -> Answered {
     let a = of_case(body);
-    lend(elements);
-    lend(work);
+    let mut elements = [LENT; ELEMENTS];
+    let mut work = [LENT; WORK];
     let n = shorter(a.floats, iq.len());
-    let e = shorter(a.elements, elements.len());
-    let w = shorter(a.work, work.len());
+    let e = shorter(a.elements, ELEMENTS);
+    let w = shorter(a.work, WORK);
     calls::find(
         a,
         body,
@@ -30,49 +29,34 @@ pub fn find(
     )
 }
 
-pub fn fit(
-    body: &[u8],
-    iq: &[f32],
-    stored_elements: &[f64],
-    stored_fits: &[f64],
-    fits: &mut [f64],
-    work: &mut [f64],
-) -> Answered {
+pub fn fit(body: &[u8], iq: &[f32], stored_elements: &[f64], stored_fits: &[f64]) -> Answered {
     let a = of_case(body);
-    lend(fits);
-    lend(work);
+    let mut fits = [LENT; FITS];
+    let mut work = [LENT; WORK];
     let n = shorter(a.floats, iq.len());
-    let g = shorter(a.given_elements, stored_elements.len());
-    let f = shorter(a.fits, fits.len());
-    let w = shorter(a.work, work.len());
+    let e = shorter(a.given_elements, stored_elements.len());
+    let f = shorter(a.fits, FITS);
+    let w = shorter(a.work, WORK);
     calls::fit(
         a,
         body,
         &iq[..n],
-        &stored_elements[..g],
+        &stored_elements[..e],
         stored_fits,
         &mut fits[..f],
         &mut work[..w],
     )
 }
 
-pub fn estimate(
-    body: &[u8],
-    iq: &[f32],
-    stored_elements: &[f64],
-    stored_fits: &[f64],
-    elements: &mut [f64],
-    fits: &mut [f64],
-    work: &mut [f64],
-) -> Answered {
+pub fn estimate(body: &[u8], iq: &[f32], stored_elements: &[f64], stored_fits: &[f64]) -> Answered {
     let a = of_case(body);
-    lend(elements);
-    lend(fits);
-    lend(work);
+    let mut elements = [LENT; ELEMENTS];
+    let mut fits = [LENT; FITS];
+    let mut work = [LENT; WORK];
     let n = shorter(a.floats, iq.len());
-    let e = shorter(a.elements, elements.len());
-    let f = shorter(a.fits, fits.len());
-    let w = shorter(a.work, work.len());
+    let e = shorter(a.elements, ELEMENTS);
+    let f = shorter(a.fits, FITS);
+    let w = shorter(a.work, WORK);
     calls::estimate(
         a,
         body,
@@ -85,19 +69,13 @@ pub fn estimate(
     )
 }
 
-pub fn residual(
-    body: &[u8],
-    iq: &[f32],
-    stored_elements: &[f64],
-    stored_fits: &[f64],
-    work: &mut [f64],
-) -> Answered {
+pub fn residual(body: &[u8], iq: &[f32], stored_elements: &[f64], stored_fits: &[f64]) -> Answered {
     let a = of_case(body);
-    lend(work);
+    let mut work = [LENT; WORK];
     let n = shorter(a.floats, iq.len());
     let e = shorter(a.given_elements, stored_elements.len());
     let f = shorter(a.given_fits, stored_fits.len());
-    let w = shorter(a.work, work.len());
+    let w = shorter(a.work, WORK);
     calls::residual(
         a,
         body,
@@ -108,19 +86,13 @@ pub fn residual(
     )
 }
 
-pub fn evidence(
-    body: &[u8],
-    iq: &[f32],
-    stored_elements: &[f64],
-    stored_fits: &[f64],
-    work: &mut [f64],
-) -> Answered {
+pub fn evidence(body: &[u8], iq: &[f32], stored_elements: &[f64], stored_fits: &[f64]) -> Answered {
     let a = of_case(body);
-    lend(work);
+    let mut work = [LENT; WORK];
     let n = shorter(a.floats, iq.len());
     let e = shorter(a.given_elements, stored_elements.len());
     let f = shorter(a.given_fits, stored_fits.len());
-    let w = shorter(a.work, work.len());
+    let w = shorter(a.work, WORK);
     calls::evidence(
         a,
         body,
@@ -137,13 +109,13 @@ pub fn subtract(
     left: &[f32],
     stored_elements: &[f64],
     stored_fits: &[f64],
-    buf: &mut [f32],
 ) -> Answered {
     let a = of_case(body);
-    copied(iq, buf);
+    let mut buf = [0.0f32; FLOATS];
+    copied(iq, &mut buf);
+    let n = shorter(a.floats, FLOATS);
     let e = shorter(a.given_elements, stored_elements.len());
     let f = shorter(a.given_fits, stored_fits.len());
-    let n = shorter(a.floats, buf.len());
     calls::subtract(
         a,
         iq,
@@ -154,22 +126,23 @@ pub fn subtract(
     )
 }
 
-fn run_lent(
+pub fn run(
     body: &[u8],
     iq: &[f32],
     left: &[f32],
     stored_elements: &[f64],
     stored_fits: &[f64],
-    buf: &mut [f32],
-    elements: &mut [f64],
-    fits: &mut [f64],
-    work: &mut [f64],
 ) -> Ran {
     let a = of_case(body);
-    let n = shorter(a.floats, buf.len());
-    let e = shorter(a.elements, elements.len());
-    let f = shorter(a.fits, fits.len());
-    let w = shorter(a.work, work.len());
+    let mut buf = [0.0f32; FLOATS];
+    let mut elements = [LENT; ELEMENTS];
+    let mut fits = [LENT; FITS];
+    let mut work = [LENT; WORK];
+    copied(iq, &mut buf);
+    let n = shorter(a.floats, FLOATS);
+    let e = shorter(a.elements, ELEMENTS);
+    let f = shorter(a.fits, FITS);
+    let w = shorter(a.work, WORK);
     calls::run(
         a,
         body,
@@ -181,33 +154,5 @@ fn run_lent(
         &mut elements[..e],
         &mut fits[..f],
         &mut work[..w],
-    )
-}
-
-pub fn run(
-    body: &[u8],
-    iq: &[f32],
-    left: &[f32],
-    stored_elements: &[f64],
-    stored_fits: &[f64],
-    buf: &mut [f32],
-    elements: &mut [f64],
-    fits: &mut [f64],
-    work: &mut [f64],
-) -> Ran {
-    copied(iq, buf);
-    lend(elements);
-    lend(fits);
-    lend(work);
-    run_lent(
-        body,
-        iq,
-        left,
-        stored_elements,
-        stored_fits,
-        buf,
-        elements,
-        fits,
-        work,
     )
 }

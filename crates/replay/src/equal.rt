@@ -5,14 +5,7 @@ ghost use Prim.Native.Nat.{_+_, _*_, _≤_, _<_};
 ghost use lib.ListN.{length};
 
 // What lists and work slices hold before a call.
-const LENT: f64 = -7.25;
-
-pub fn lend(row: &mut [f64]) {
-    let n = row.len();
-    for i in 0..n {
-        row[i] = LENT;
-    }
-}
+pub const LENT: f64 = -7.25;
 
 // Does a row hold what it held before the call, from one place on?
 pub fn as_lent(row: &[f64], from: usize) -> bool {

@@ -7,6 +7,16 @@ use crate::units::shorter;
 use crate::units::single;
 use std::num::nearest_u32_to_f32;
 
+// The most numbers that are kept, or lent to a call. A recording has at most 2,048 samples, so B is at most that: its
+// half in places, four times it in work, and some numbers more that are no place.
+pub const FLOATS: usize = 4096;
+
+pub const ELEMENTS: usize = 4112;
+
+pub const FITS: usize = 8208;
+
+pub const WORK: usize = 8208;
+
 // A part of a sample: a whole number from -32,768 on, stored from 0 on, times the scale.
 fn part(stored: u32, scale: f32) -> f32 {
     (nearest_u32_to_f32(stored) - 32768.0) * scale

@@ -12,6 +12,9 @@ mod units;
 
 use crate::calls::Answered;
 use crate::calls::Ran;
+use crate::kept::ELEMENTS;
+use crate::kept::FITS;
+use crate::kept::FLOATS;
 use crate::tally::add;
 use crate::tally::only_if;
 use crate::units::count;
@@ -44,19 +47,14 @@ fn counted_run(tally: &mut [u64], call: usize, r: Ran) {
     add(tally, tally::CHANGED, 0, only_if(r.taken, r.changed));
 }
 
-// One record; answers whether its kind is known. Kinds from 16 on are the calls, in the order of include/cancel.h.
-fn record(
+// A record that puts numbers into what is kept; answers whether its kind is known.
+fn put(
     kind: usize,
     body: &[u8],
     iq: &mut [f32],
     left: &mut [f32],
-    buf: &mut [f32],
     stored_elements: &mut [f64],
     stored_fits: &mut [f64],
-    elements: &mut [f64],
-    fits: &mut [f64],
-    work: &mut [f64],
-    tally: &mut [u64],
 ) -> bool {
     match kind {
         1 => kept::recording(body, iq),
@@ -65,56 +63,69 @@ fn record(
         4 => kept::floats(body, left),
         5 => kept::list(body, stored_elements),
         6 => kept::list(body, stored_fits),
+        _ => return false,
+    }
+    true
+}
+
+// The end, or a call, in the order of include/cancel.h; answers whether its kind is known.
+fn ask(
+    kind: usize,
+    body: &[u8],
+    iq: &[f32],
+    left: &[f32],
+    stored_elements: &[f64],
+    stored_fits: &[f64],
+    tally: &mut [u64],
+) -> bool {
+    match kind {
         7 => add(tally, tally::ENDS, 0, 1),
-        16 => counted(
-            tally,
-            0,
-            cases::find(body, iq, stored_elements, elements, work),
-        ),
-        17 => counted(
-            tally,
-            1,
-            cases::fit(body, iq, stored_elements, stored_fits, fits, work),
-        ),
+        16 => counted(tally, 0, cases::find(body, iq, stored_elements)),
+        17 => counted(tally, 1, cases::fit(body, iq, stored_elements, stored_fits)),
         18 => counted(
             tally,
             2,
-            cases::estimate(body, iq, stored_elements, stored_fits, elements, fits, work),
+            cases::estimate(body, iq, stored_elements, stored_fits),
         ),
         19 => counted(
             tally,
             3,
-            cases::residual(body, iq, stored_elements, stored_fits, work),
+            cases::residual(body, iq, stored_elements, stored_fits),
         ),
         20 => counted(
             tally,
             4,
-            cases::evidence(body, iq, stored_elements, stored_fits, work),
+            cases::evidence(body, iq, stored_elements, stored_fits),
         ),
         21 => counted(tally, 5, calls::classify(body)),
         22 => counted(
             tally,
             6,
-            cases::subtract(body, iq, left, stored_elements, stored_fits, buf),
+            cases::subtract(body, iq, left, stored_elements, stored_fits),
         ),
         23 => counted_run(
             tally,
             7,
-            cases::run(
-                body,
-                iq,
-                left,
-                stored_elements,
-                stored_fits,
-                buf,
-                elements,
-                fits,
-                work,
-            ),
+            cases::run(body, iq, left, stored_elements, stored_fits),
         ),
         _ => return false,
     }
     true
+}
+
+fn record(
+    kind: usize,
+    body: &[u8],
+    iq: &mut [f32],
+    left: &mut [f32],
+    stored_elements: &mut [f64],
+    stored_fits: &mut [f64],
+    tally: &mut [u64],
+) -> bool {
+    if kind < 7 {
+        return put(kind, body, iq, left, stored_elements, stored_fits);
+    }
+    ask(kind, body, iq, left, stored_elements, stored_fits, tally)
 }
 
 // The size of the record at a unit, 0 where it is not whole.
@@ -138,12 +149,8 @@ fn next(
     at: usize,
     iq: &mut [f32],
     left: &mut [f32],
-    buf: &mut [f32],
     stored_elements: &mut [f64],
     stored_fits: &mut [f64],
-    elements: &mut [f64],
-    fits: &mut [f64],
-    work: &mut [f64],
     tally: &mut [u64],
 ) -> usize
     requires { ⌜ at < length (now bytes) / 4 ⌝ }
@@ -162,12 +169,8 @@ fn next(
         &bytes[from..to],
         iq,
         left,
-        buf,
         stored_elements,
         stored_fits,
-        elements,
-        fits,
-        work,
         tally,
     ) {
         return after;
@@ -176,17 +179,12 @@ fn next(
     bytes.len() / 4
 }
 
-// A recording has at most 2,048 samples, so B is at most that: its half in places, four times it in work, and some
-// numbers more that are no place.
+// Keeps what the records put, and replays one after the other.
 fn replay(bytes: &[u8]) {
-    let mut iq = [0.0f32; 4096];
-    let mut left = [0.0f32; 4096];
-    let mut buf = [0.0f32; 4096];
-    let mut stored_elements = [0.0f64; 4 * 1024 + 16];
-    let mut stored_fits = [0.0f64; 8 * 1024 + 16];
-    let mut elements = [0.0f64; 4 * 1024 + 16];
-    let mut fits = [0.0f64; 8 * 1024 + 16];
-    let mut work = [0.0f64; 4 * 2048 + 16];
+    let mut iq = [0.0f32; FLOATS];
+    let mut left = [0.0f32; FLOATS];
+    let mut stored_elements = [0.0f64; ELEMENTS];
+    let mut stored_fits = [0.0f64; FITS];
     let mut tally = [0u64; tally::PLACES];
     let units = bytes.len() / 4;
     let mut at = 0;
@@ -196,12 +194,8 @@ fn replay(bytes: &[u8]) {
             at,
             &mut iq,
             &mut left,
-            &mut buf,
             &mut stored_elements,
             &mut stored_fits,
-            &mut elements,
-            &mut fits,
-            &mut work,
             &mut tally,
         );
     }

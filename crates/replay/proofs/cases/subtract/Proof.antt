@@ -4,19 +4,25 @@ use Rattle.replay.proofs.Prefix.{prefix-length}
 use Rattle.replay.proofs.cases.subtract.Statement.{statement}
 use Rattle.replay.proofs.cases.subtract.Tie as tie
 
+few : tie.Need-array-borrow-prefix-buf
+few c = search needs
+
+slice-aggregate-subtract-3 : tie.Need-slice-aggregate-subtract-3
+slice-aggregate-subtract-3 c = prefix-length _ _ (few (c .before))
+
 pub subtract-spec : {M : Type 1} → statement M
 subtract-spec =
     tie.close
     (tie.spec
     (λ c κs. search needs)
-    (λ c κs. search needs)
-    (λ c κs. search needs)
-    (λ c κs. search needs)
-    (λ c κs. search needs)
-    (λ c. search (needs, prefix-length))
-    (λ c. search (needs, prefix-length))
     (λ c. search needs)
-    (λ c. search (needs, prefix-length))
     (λ c κs. search needs)
-    (λ c. search needs)
+    (λ c κs. search needs)
+    (λ c κs. search needs)
+    (λ c κs. search needs)
+    (λ c. search (needs, prefix-length))
+    (λ c. search (needs, prefix-length))
+    few
+    slice-aggregate-subtract-3
+    (λ c κs. search needs)
     (λ c. search needs))
