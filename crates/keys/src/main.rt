@@ -105,12 +105,12 @@ fn estimate(iq: &[f32]) {
 }
 
 fn recording(bytes: &[u8]) {
-    if !report::bytes_ok(bytes.len()) {
+    if !format::bytes_ok(bytes.len()) {
         refused(2);
         return;
     }
     let mut iq = [0.0f32; 4096];
-    let parts = report::samples(bytes, &mut iq);
+    let parts = format::samples(bytes, &mut iq);
     estimate(&iq[..parts]);
 }
 

@@ -6,7 +6,7 @@ use borrow.Author.Needs.{needs}
 use borrow.Author.Tests.{not-false}
 use native.Mathlib.Nat.{min-eq-left}
 use lib.ListN.{length, length-take}
-use Rattle.report.proofs.Laws.{parts-few}
+use Rattle.format.proofs.Laws.{parts-few}
 use Rattle.keys.proofs.recording.Statement.{statement}
 use Rattle.keys.proofs.recording.Tie as tie
 

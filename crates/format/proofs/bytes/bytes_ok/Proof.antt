@@ -1,8 +1,8 @@
--- `report::bytes::bytes_ok` meets its contract. Assumes nothing.
+-- `format::bytes::bytes_ok` meets its contract. Assumes nothing.
 use borrow.Author.Tests.{eq-eqb, ne-eqb}
-use Rattle.report.specs.Bytes.{bytesOk}
-use Rattle.report.proofs.bytes.bytes_ok.Statement.{statement}
-use Rattle.report.proofs.bytes.bytes_ok.Tie as tie
+use Rattle.format.specs.Bytes.{bytesOk}
+use Rattle.format.proofs.bytes.bytes_ok.Statement.{statement}
+use Rattle.format.proofs.bytes.bytes_ok.Tie as tie
 
 returns : tie.Need-returns
 unfolding bytesOk

@@ -1,10 +1,10 @@
--- `report::bytes::of_pattern` meets its contract. Assumes nothing.
+-- `format::bytes::of_pattern` meets its contract. Assumes nothing.
 use borrow.Author.Needs.{needs}
 use mathlib.Core.Logic.{⊎-elim}
 use lib.Ieee.{ofBits, div}
-use Rattle.report.proofs.Patterns.{is-nan, is-number, is-infinity}
-use Rattle.report.proofs.bytes.of_pattern.Statement.{statement}
-use Rattle.report.proofs.bytes.of_pattern.Tie as tie
+use Rattle.format.proofs.Patterns.{is-nan, is-number, is-infinity}
+use Rattle.format.proofs.bytes.of_pattern.Statement.{statement}
+use Rattle.format.proofs.bytes.of_pattern.Tie as tie
 
 returns : tie.Need-returns
 unfolding div ofBits

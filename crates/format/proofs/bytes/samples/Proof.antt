@@ -3,10 +3,10 @@ use Prim.Native.Nat.{_≤_, _-_, _/_}
 use mathlib.Core.Path.{_≡_}
 use lib.ListN.{length}
 use Rattle.lists.specs.Fill.{fill}
-use Rattle.report.specs.Bytes.{partAt}
-use Rattle.report.proofs.Laws.{laws}
-use Rattle.report.proofs.bytes.samples.Statement.{statement}
-use Rattle.report.proofs.bytes.samples.Tie as tie
+use Rattle.format.specs.Bytes.{partAt}
+use Rattle.format.proofs.Laws.{laws}
+use Rattle.format.proofs.bytes.samples.Statement.{statement}
+use Rattle.format.proofs.bytes.samples.Tie as tie
 
 abbrev Inv-loop : tie.InvT-loop
 Inv-loop bytes out₀ n i₀ out i = (n ≡ length bytes / 4) × (i ≤ n) × (length out ≡ length out₀) × (out ≡ fill out₀ 0 (partAt bytes) i)

@@ -1,7 +1,7 @@
--- `report::bytes::part` meets its contract. Assumes nothing.
+-- `format::bytes::part` meets its contract. Assumes nothing.
 use borrow.Author.Needs.{needs}
-use Rattle.report.proofs.bytes.part.Statement.{statement}
-use Rattle.report.proofs.bytes.part.Tie as tie
+use Rattle.format.proofs.bytes.part.Statement.{statement}
+use Rattle.format.proofs.bytes.part.Tie as tie
 
 returns : tie.Need-returns
 returns c = rw (c .of-pattern .ensures, c .before .pattern .ensures)

@@ -12,7 +12,7 @@ use borrow.Author.Tests.{leb-true}
 use Rattle.lists.proofs.Every.{and-right}
 use Rattle.lists.specs.Fill.{fill}
 use Rattle.lists.proofs.Fill.{fill-none, fill-turn, fill-done}
-use Rattle.report.specs.Bytes.{bytesOk}
+use Rattle.format.specs.Bytes.{bytesOk}
 
 -- one place more of a row that starts at 0
 pub fill-turn0 : (l : List Float) (f : ℕ → Float) (n : ℕ) (cur : List Float) (v : Float) → cur ≡ fill l 0 f n → v ≡ f n → set cur n v ≡ fill l 0 f (n + 1)

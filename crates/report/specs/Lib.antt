@@ -1,2 +1,0 @@
--- What the contracts of `report` cite.
-pub mod Bytes
