@@ -97,3 +97,16 @@ digits-few (suc most) (suc k) n h =
 pub decimal-few : (k n : ℕ) → n < 10 ^ suc k → length (decimal n) ≤ suc k
 unfolding decimal
 decimal-few k n h = digits-few 20 k n h
+
+most-step : (before : List ℕ) (t : Bool) (d k : ℕ) → length before ≤ k → length (cond t [] before ++ (d ∷ [])) ≤ suc k
+most-step before true d k h = omega arith
+most-step before false d k h = let both = length-append before (d ∷ []) in omega arith
+
+digits-most : (most n : ℕ) → length (digitsIn most n) ≤ most
+unfolding digitsIn
+digits-most zero n = omega arith
+digits-most (suc most) n = most-step (digitsIn most (n / 10)) (ltb n 10) (digit (n % 10)) most (digits-most most (n / 10))
+
+pub decimal-most : (n : ℕ) → length (decimal n) ≤ 20
+unfolding decimal
+decimal-most n = digits-most 20 n

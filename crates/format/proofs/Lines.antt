@@ -1,5 +1,5 @@
 -- Numbers after blanks: one more of them, and room for it. Assumes nothing.
-use Prim.Native.Nat.{ℕ, suc, _+_, _≤_, _<_}
+use Prim.Native.Nat.{ℕ, suc, _+_, _*_, _≤_, _<_}
 use native.Mathlib.Omega.{arith}
 use native.Mathlib.Numerals.{add-one}
 use mathlib.Core.Path.{_≡_, refl, sym, ap, _∙_}
@@ -8,6 +8,7 @@ use lib.ListN.{length, getD, take, drop, length-append, take-append-drop}
 use lib.Seq.{take-suc}
 use Rattle.format.specs.Ascii.{ascii}
 use Rattle.format.specs.Text.{decimal, spaced, line}
+use Rattle.format.proofs.Decimals.{decimal-few, decimal-most}
 
 pub spaced-one : (n : ℕ) → ascii " " ++ decimal n ≡ spaced (n ∷ [])
 unfolding spaced
@@ -34,3 +35,31 @@ module _ (ns : List ℕ) (i : ℕ) (h : i < length ns) where
 pub line-length : (word ns : List ℕ) → length (line word ns) ≡ length word + (length (spaced ns) + 2)
 unfolding line
 line-length word ns = length-append word (spaced ns ++ ascii ")\n") ∙ ap (λ (k : ℕ). length word + k) (length-append (spaced ns) (ascii ")\n"))
+
+-- ---- how long at most
+
+pub spaced-most : (ns : List ℕ) → length (spaced ns) ≤ 21 * length ns
+unfolding spaced
+spaced-most [] = omega arith
+spaced-most (n ∷ ns) =
+    let first = decimal-most n in
+    let rest = spaced-most ns in
+    let both = length-append (decimal n) (spaced ns) in
+    omega arith
+
+pub line-most : (word ns : List ℕ) → length (line word ns) ≤ length word + (21 * length ns + 2)
+line-most word ns =
+    let long = line-length word ns in
+    let most = spaced-most ns in
+    omega arith
+
+-- two numbers below 10,000
+pub pair-most : (word : List ℕ) (m n : ℕ) → m < 10000 → n < 10000 → length (line word (m ∷ n ∷ [])) ≤ length word + 12
+unfolding spaced
+pair-most word m n h k =
+    let long = line-length word (m ∷ n ∷ []) in
+    let first = decimal-few 3 m h in
+    let second = decimal-few 3 n k in
+    let both = length-append (decimal m) (ascii " " ++ (decimal n ++ [])) in
+    let none = ap length (append-nil (decimal n)) in
+    omega arith
