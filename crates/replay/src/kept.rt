@@ -43,7 +43,7 @@ pub fn floats(body: &[u8], row: &mut [f32]) {
     if row.len() - first < (body.len() - 4) / 4 {
         return;
     }
-    report::samples(&body[4..], &mut row[first..]);
+    format::samples(&body[4..], &mut row[first..]);
 }
 
 // The floats of one row to the start of another.

@@ -76,7 +76,7 @@ pub fn single(bytes: &[u8], i: usize) -> f32 {
     if i < bytes.len() / 4 {
         let from = 4 * i;
         let to = from + 4;
-        report::samples(&bytes[from..to], &mut one);
+        format::samples(&bytes[from..to], &mut one);
     }
     one[0]
 }

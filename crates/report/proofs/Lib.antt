@@ -1,6 +1,11 @@
--- Laws that the proofs of `report` share and that the programs cite, by subject.
+-- Laws behind the proofs of `report`, by subject.
 
--- Patterns    an f32's bit pattern by its two fields: `is-nan`, `is-number`, `is-infinity`
--- Laws        the loop that stores the samples: ruleset `laws`; a recording that is accepted is short: `parts-few`
-pub mod Patterns
-pub mod Laws
+-- Keys        the key lines of the elements that a list holds: `keys-none`, `keys-turn`, `keys-done`, `keys-room`
+-- Lengths     how long the parts of a report are: `count-length`, `run-length`
+-- Room        of every input, the report fits into a lent buffer: `report-fits`; `answered-most`, `refusal-most`
+-- Asks        the run's answer in the program: `refused-is`, `done-is`; the report by the second question:
+--             `report-refused`, `report-answered`
+pub mod Keys
+pub mod Lengths
+pub mod Room
+pub mod Asks

@@ -1,2 +1,2 @@
 -- What the contracts of `report` cite.
-pub mod Bytes
+pub mod Report

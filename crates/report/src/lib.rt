@@ -1,5 +1,6 @@
-// What the report programs share: the samples of a recording that comes as bytes.
-pub mod bytes;
+// The report on a recording that comes as bytes.
+pub mod answer;
+pub mod lines;
 
-pub use bytes::bytes_ok;
-pub use bytes::samples;
+pub use answer::ROOM;
+pub use answer::report;

@@ -1,0 +1,4 @@
+-- What the contracts of `format` cite.
+pub mod Ascii
+pub mod Bytes
+pub mod Text

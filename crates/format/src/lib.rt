@@ -1,0 +1,8 @@
+// What the programs read and write as bytes: a recording's samples, and text with numbers in base ten.
+pub mod bytes;
+pub mod text;
+
+pub use bytes::bytes_ok;
+pub use bytes::samples;
+pub use text::append;
+pub use text::line;

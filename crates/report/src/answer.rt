@@ -1,0 +1,60 @@
+// From the bytes of a recording to the bytes of its report.
+use crate::lines::run_lines;
+use cancel::RunAnswer;
+use elements::ELEMENT;
+use fits::FIT;
+use format::bytes_ok;
+use format::line;
+use format::samples;
+ghost use mathlib.Core.Path.{_≡_};
+ghost use mathlib.Core.List.{List, [], _∷_, _++_};
+ghost use Prim.Native.Nat.{_%_, _≤_};
+ghost use lib.ListN.{length, drop};
+ghost use Rattle.io.specs.Counts.{Counts};
+ghost use Rattle.row.specs.Samples.{allFinite};
+ghost use Rattle.cancel.specs.Questions.{ask, firstNo};
+ghost use Rattle.format.specs.Text.{Appended};
+ghost use Rattle.report.specs.Report.{ROOM, refusal, answered, reportOf};
+
+// Enough for every report.
+pub const ROOM: usize = 16768;
+
+// The one line of a refusal.
+fn refused(out: &mut [u8], no: u64) -> usize
+    requires { ⌜ length (refusal no) ≤ length (now out) ⌝ }
+    ensures { λ r. ⌜ Appended (now (out .entry)) 0 (refusal no) (now (out .exit)) r ⌝ }
+{
+    let numbers = [no as usize];
+    line(out, 0, b"(run", &numbers)
+}
+
+// At 3,000 samples a second B is at most 2,048, the most samples there are: its half in places, four times it in work.
+fn of_recording(iq: &mut [f32], out: &mut [u8]) -> usize
+    requires { ⌜ length (now iq) % 2 ≡ 0 ⌝ }
+    requires { ⌜ length (now iq) ≤ 4096 ⌝ }
+    requires { ⌜ ROOM ≤ length (now out) ⌝ }
+    ensures { λ r. ⌜ Appended (now (out .entry)) 0
+        (answered (firstNo (ask 3 (allFinite (now (iq .entry))) ∷ [])) (now (iq .entry))) (now (out .exit)) r ⌝ }
+{
+    let mut elements = [0.0f64; ELEMENT * 1024];
+    let mut fits = [0.0f64; FIT * 1024];
+    let mut work = [0.0f64; 4 * 2048];
+    match cancel::run(iq, 3000.0, 0.0, &mut elements, &mut fits, &mut work) {
+        RunAnswer::Refused(no) => refused(out, no),
+        RunAnswer::Done(f) => run_lines(out, f, &elements),
+    }
+}
+
+// The report goes to the start of `out`, and the rest of it is as it was; answers how many bytes the report has.
+pub fn report(bytes: &[u8], out: &mut [u8; ROOM]) -> usize
+    ensures { λ r. ⌜ Counts r (now (out .exit)) ⌝ }
+    ensures { λ r. ⌜ (r ≡ length (reportOf (now (bytes .entry))))
+        × (now (out .exit) ≡ reportOf (now (bytes .entry)) ++ drop (length (reportOf (now (bytes .entry)))) (now (out .entry))) ⌝ }
+{
+    if !bytes_ok(bytes.len()) {
+        return refused(out, 2);
+    }
+    let mut iq = [0.0f32; 4096];
+    let parts = samples(bytes, &mut iq);
+    of_recording(&mut iq[..parts], out)
+}
