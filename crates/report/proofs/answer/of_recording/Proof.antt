@@ -22,7 +22,7 @@ run-lines-requires : tie.Need-run-lines-requires
 run-lines-requires c κs =
     let entry = c .before .before .before .before .before .before .before .before .before .before .before .before .before .before .before .before .before in
     let asked = c .before .before .before .before .before .before .before .before .before .before .run in
-    let told = rw (c .before .before .before .f .given .1) at (asked .ensures) in
+    let told = rw (c .before .before .before .f .given .1) at (asked .ensures .0) in
     done-room _ told (c .before .before .before .f .given .0 .0) (asked .last .1 .1 .1 .0) refl refl
     (record { is-rate = rate-bits; is-hint = hint-bits; even = entry .pre .0; few = entry .pre .1 .0; elements-places = omega arith; fits-places = omega arith; work-numbers = omega arith })
     (entry .args .out .now) (omega (arith, asked .kept)) (entry .pre .1 .1)
@@ -40,7 +40,7 @@ returns-2 : tie.Need-returns-2
 returns-2 c =
     let entry = c .before .before .before .before .before .before .before .before .before .before .before .before .before .before .before .before .before .before .before .before in
     let asked = c .before .before .before .before .before .before .before .before .before .before .before .before .before .run in
-    let told = rw (c .before .before .before .before .before .before .f .given .1) at (asked .ensures) in
+    let told = rw (c .before .before .before .before .before .before .f .given .1) at (asked .ensures .0) in
     let put = c .before .before .run-lines in
     subst (λ (t : List ℕ). Appended (entry .args .out .now) 0 t (put .last .0) (put .result))
     (sym (done-is _ told (c .before .before .before .before .before .before .f .given .0 .0) (asked .last .1 .1 .1 .0) refl refl (record { is-rate = rate-bits; is-hint = hint-bits; even = entry .pre .0; few = entry .pre .1 .0; elements-places = omega arith; fits-places = omega arith; work-numbers = omega arith })))
