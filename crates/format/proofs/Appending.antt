@@ -1,9 +1,9 @@
--- Text put into a lent buffer, piece by piece: `Appended`, from where nothing is put to several pieces. Assumes nothing.
-use Prim.Native.Nat.{ℕ, suc, _+_, _≤_, _<_}
+-- Text put into a lent buffer, piece by piece: `Appended`, from nothing to several pieces. Assumes nothing.
+use Prim.Native.Nat.{ℕ, _+_, _≤_, _<_}
 use native.Mathlib.Omega.{arith}
 use native.Mathlib.Numerals.{add-one}
-use mathlib.Core.Path.{_≡_, refl, sym, ap, _∙_, subst}
-use mathlib.Core.List.{List, [], _∷_, _++_, append-assoc}
+use mathlib.Core.Path.{_≡_, sym, ap, _∙_}
+use mathlib.Core.List.{List, [], _++_, append-assoc}
 use lib.ListN.{length, getD, set, take, drop, length-append}
 use lib.Seq.{length-take-le, take-all, take-at, drop-at, drop-drop, paste, paste-zero, paste-suc}
 use Rattle.format.specs.Text.{Appended}

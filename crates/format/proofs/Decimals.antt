@@ -3,18 +3,18 @@
 use Prim.Native.Nat.{ℕ, zero, suc, _+_, _-_, _*_, _/_, _%_, _^_, _≤_, _<_}
 use native.Mathlib.Omega.{arith}
 use native.Mathlib.Nat.{pow-zero, pow-suc, one-le-pow, pow-le-pow-right, le-of-suc-le-suc, lt-of-not-le}
-use mathlib.Core.Path.{_≡_, refl, sym, ap, _∙_, subst}
+use mathlib.Core.Path.{_≡_, refl, subst}
 use mathlib.Core.Bool.{Bool, true, false, cond}
 use mathlib.Core.List.{List, [], _∷_, _++_}
 use lib.Dec.{ltb}
 use lib.ListN.{length, length-append}
 use borrow.Author.Tests.{lt-ltb, le-ltb, ltb-true, ltb-false}
 use Rattle.io.specs.Digits.{glyph, digits, Fewest}
-use Rattle.format.specs.Text.{digit, digitsIn, decimal, readOn, readBack}
+use Rattle.format.specs.Text.{digitByte, digitsIn, decimal, readOn, readBack}
 
 -- ---- the code's digits
 
-last-glyph : (n : ℕ) → glyph (n % 10) ≡ digit (n % 10)
+last-glyph : (n : ℕ) → glyph (n % 10) ≡ digitByte (n % 10)
 last-glyph n = let small : n % 10 < 10 = omega arith in rw (lt-ltb (n % 10) 10 small)
 
 pub spelled : (k most n : ℕ) → Fewest 10 1 n k → k ≤ most → digits 10 k n ≡ digitsIn most n
@@ -51,12 +51,12 @@ spelled-whole k n few h = spelled k 20 n few (le-of-suc-le-suc (lt-of-not-le (no
 
 -- ---- reading back
 
-read-last : (m : ℕ) (bs : List ℕ) (d : ℕ) → readOn m (bs ++ (digit d ∷ [])) ≡ 10 * readOn m bs + d
+read-last : (m : ℕ) (bs : List ℕ) (d : ℕ) → readOn m (bs ++ (digitByte d ∷ [])) ≡ 10 * readOn m bs + d
 read-last m [] d = omega arith
-read-last m (b ∷ bs) d = read-last (10 * m + (b - digit 0)) bs d
+read-last m (b ∷ bs) d = read-last (10 * m + (b - digitByte 0)) bs d
 
 -- by whether n is below 10
-read-step : (n : ℕ) (before : List ℕ) (t : Bool) → ltb n 10 ≡ t → readBack before ≡ n / 10 → readBack (cond t [] before ++ (digit (n % 10) ∷ [])) ≡ n
+read-step : (n : ℕ) (before : List ℕ) (t : Bool) → ltb n 10 ≡ t → readBack before ≡ n / 10 → readBack (cond t [] before ++ (digitByte (n % 10) ∷ [])) ≡ n
 read-step n before true e h = let small = ltb-true n 10 e in omega arith
 read-step n before false e h = let last = read-last 0 before (n % 10) in omega arith
 
@@ -74,7 +74,7 @@ decimal-back n h = read-digits 20 n (omega arith)
 
 -- ---- how many there are
 
-few-step : (n k : ℕ) (before : List ℕ) (t : Bool) → ltb n 10 ≡ t → n < 10 ^ suc k → ((j : ℕ) → k ≡ suc j → length before ≤ k) → length (cond t [] before ++ (digit (n % 10) ∷ [])) ≤ suc k
+few-step : (n k : ℕ) (before : List ℕ) (t : Bool) → ltb n 10 ≡ t → n < 10 ^ suc k → ((j : ℕ) → k ≡ suc j → length before ≤ k) → length (cond t [] before ++ (digitByte (n % 10) ∷ [])) ≤ suc k
 few-step n k before true e h few = omega arith
 few-step n zero before false e h few =
     let ten = pow-suc 10 0 in
@@ -83,7 +83,7 @@ few-step n zero before false e h few =
     absurd (omega arith)
 few-step n (suc k) before false e h few =
     let some = few k refl in
-    let both = length-append before (digit (n % 10) ∷ []) in
+    let both = length-append before (digitByte (n % 10) ∷ []) in
     omega arith
 
 digits-few : (most k n : ℕ) → n < 10 ^ suc k → length (digitsIn most n) ≤ suc k
@@ -105,7 +105,7 @@ most-step before false d k h = let both = length-append before (d ∷ []) in ome
 digits-most : (most n : ℕ) → length (digitsIn most n) ≤ most
 unfolding digitsIn
 digits-most zero n = omega arith
-digits-most (suc most) n = most-step (digitsIn most (n / 10)) (ltb n 10) (digit (n % 10)) most (digits-most most (n / 10))
+digits-most (suc most) n = most-step (digitsIn most (n / 10)) (ltb n 10) (digitByte (n % 10)) most (digits-most most (n / 10))
 
 pub decimal-most : (n : ℕ) → length (decimal n) ≤ 20
 unfolding decimal

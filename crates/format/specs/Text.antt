@@ -11,15 +11,15 @@ use Rattle.format.specs.Ascii.{ascii}
 -- ---- base ten
 
 -- the byte of a digit: "0" is 48
-abbrev pub digit : ℕ → ℕ
-digit d = 48 + d
+abbrev pub digitByte : ℕ → ℕ
+digitByte d = 48 + d
 
 -- The digits of n in base ten, the most significant first, with no 0 in front of them: the last of them is n % 10, and
 -- those before it are the digits of n / 10, of which there are none where n is below 10. The first number is how many
 -- digits there may be.
 unfoldable pub digitsIn : ℕ → ℕ → List ℕ
 digitsIn zero n = []
-digitsIn (suc most) n = cond (ltb n 10) [] (digitsIn most (n / 10)) ++ (digit (n % 10) ∷ [])
+digitsIn (suc most) n = cond (ltb n 10) [] (digitsIn most (n / 10)) ++ (digitByte (n % 10) ∷ [])
 
 -- Every number of 64 bits has at most 20.
 unfoldable pub decimal : ℕ → List ℕ
@@ -28,7 +28,7 @@ decimal n = digitsIn 20 n
 -- reading back: the number that digits stand for, behind those already read
 abbrev pub readOn : ℕ → List ℕ → ℕ
 readOn n [] = n
-readOn n (b ∷ bs) = readOn (10 * n + (b - digit 0)) bs
+readOn n (b ∷ bs) = readOn (10 * n + (b - digitByte 0)) bs
 
 abbrev pub readBack : List ℕ → ℕ
 readBack = readOn 0

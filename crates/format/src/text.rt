@@ -2,7 +2,6 @@
 // that there is room for just that text.
 ghost use Prim.Native.Nat.{_+_, _≤_};
 ghost use lib.ListN.{length};
-ghost use Rattle.format.specs.Ascii.{ascii};
 ghost use Rattle.format.specs.Text.{decimal, spaced, Appended};
 ghost use Rattle.format.specs.Text.{line as Text·line};
 ghost use mathlib.Core.List.{[], _∷_};

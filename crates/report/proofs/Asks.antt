@@ -2,8 +2,8 @@
 -- the report then is. Assumes nothing.
 use Prim.Native.Nat.{ℕ, zero, suc, _+_, _*_, _/_, _%_, _≤_}
 use native.Mathlib.Omega.{arith}
-use mathlib.Core.Path.{_≡_, refl, sym, ap, _∙_, subst}
-use mathlib.Core.Bool.{Bool, true, false, _&&_}
+use mathlib.Core.Path.{_≡_, refl, sym, ap, _∙_}
+use mathlib.Core.Bool.{true, false}
 use mathlib.Core.List.{List, [], _∷_, _++_}
 use lib.Dec.{leb, eqb}
 use lib.ListN.{length, take, drop}
@@ -11,15 +11,15 @@ use lib.Ieee.{Float, nan, ofBits, ofInt, round, le, lt, eq, div, isNan}
 use lib.Seq.{length-take-le}
 use borrow.Author.Tests.{le-leb, eq-eqb, eqb-true}
 use Rattle.io.specs.Counts.{Counts}
-use Rattle.float.specs.Ops.{bits, of}
+use Rattle.float.specs.Ops.{bits}
 use Rattle.float.specs.Compare.{absOf}
 use Rattle.float.specs.Size.{finiteF}
 use Rattle.row.specs.Samples.{allFinite}
-use Rattle.row.specs.Window.{rateOk, stepOf, stepBlocks}
+use Rattle.row.specs.Window.{rateOk, stepBlocks}
 use Rattle.lists.specs.Fill.{fill}
 use Rattle.lists.proofs.Every.{and-left}
 use Rattle.lists.proofs.Fill.{part-fill}
-use Rattle.elements.specs.Element.{ELEMENT, handed, handedElements, elementsIn}
+use Rattle.elements.specs.Element.{ELEMENT, handedElements, elementsIn}
 use Rattle.elements.proofs.Records.{elements-read}
 use Rattle.elements.proofs.Recording.{listed-counted}
 use Rattle.fits.specs.List.{FIT}
@@ -29,11 +29,11 @@ use Rattle.engine.specs.Run.{runFigures}
 use Rattle.cancel.specs.declared.running.RunAnswer.the-variants.{Refused, Done}
 use Rattle.cancel.specs.Answers.{refused, accepted, byNumber}
 use Rattle.cancel.specs.Questions.{ask, firstNo, countOk, carrierOk, placesOk, workOk}
-use Rattle.cancel.specs.Running.{runQuestions, RunResult, runOutcome, runRule}
+use Rattle.cancel.specs.Running.{runQuestions, RunResult, runRule}
 use Rattle.cancel.proofs.RunAccepted.{run-done}
 use Rattle.format.specs.Bytes.{bytesOk, partAt}
 use Rattle.format.specs.Text.{Appended}
-use Rattle.report.specs.Report.{RATE, HINT, ROOM, recordingOf, runLines, refusal, answered, reportQuestions, reportOf}
+use Rattle.report.specs.Report.{RATE, HINT, ROOM, recordingOf, runLines, refusal, answered, reportOf}
 use Rattle.report.proofs.Room.{blocks-few, listed-few, answered-most}
 
 -- ---- the code's literals

@@ -1,9 +1,9 @@
 -- A report is never longer than `ROOM`: at most 1,024 key lines of at most 16 bytes with their line ends, and the other
 -- lines. Assumes nothing.
-use Prim.Native.Nat.{ℕ, zero, suc, _+_, _-_, _*_, _/_, _%_, _^_, _≤_, _<_}
+use Prim.Native.Nat.{ℕ, zero, suc, _-_, _*_, _/_, _≤_}
 use native.Mathlib.Nat.{div-one}
 use native.Mathlib.Omega.{arith}
-use mathlib.Core.Path.{_≡_, refl, sym, ap, _∙_, subst}
+use mathlib.Core.Path.{_≡_, refl, subst}
 use mathlib.Core.Bool.{Bool, true, false}
 use mathlib.Core.List.{List, [], _∷_, List·Memᴰ, List·Memᴰ·head, List·Memᴰ·tail, List·Memᴰ·not-nil, Memᴰ·of-map}
 use lib.ListN.{length, length-append}
@@ -14,7 +14,7 @@ use Rattle.row.specs.Window.{stepOf, stepBlocks}
 use Rattle.row.specs.Envelope.{rowOf, rowLength}
 use Rattle.elements.specs.declared.element.KeyedElement.{KeyedElement}
 use Rattle.elements.specs.Keying.{KeyDown, keyDowns, elementOf, listedOf, elementsOf, elementsTo}
-use Rattle.elements.specs.Find.{Threshold, At, Absent, thresholdOf, elementsAt, foundOf, elementsFound}
+use Rattle.elements.specs.Find.{Threshold, At, Absent, thresholdOf, elementsAt, elementsFound}
 use Rattle.elements.proofs.KeyDowns.{members, listed-is}
 use Rattle.elements.proofs.Recording.{listed-counted, all-counted, enough-places}
 use Rattle.elements.proofs.Edges.{step-3000}
@@ -27,7 +27,6 @@ use Rattle.cancel.specs.Questions.{firstNo}
 use Rattle.cancel.proofs.FirstNo.{yes-at}
 use Rattle.format.specs.Ascii.{ascii}
 use Rattle.format.specs.Bytes.{bytesOk, partAt}
-use Rattle.format.specs.Text.{line}
 use Rattle.format.proofs.Laws.{parts-few}
 use Rattle.format.proofs.Lines.{line-most, pair-most}
 use Rattle.report.specs.Report.{RATE, HINT, ROOM, recordingOf, keyLine, keyLines, hypothesisLine, bufferLine, countLines, runLines, refusal, answered, reportQuestions, reportOf}

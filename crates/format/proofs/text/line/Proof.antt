@@ -3,8 +3,7 @@ use native.Mathlib.Omega.{arith}
 use lib.ListN.{length}
 use borrow.Author.Needs.{needs}
 use Prim.Native.Nat.{_≤_}
-use Rattle.format.specs.Ascii.{ascii}
-use Rattle.format.specs.Text.{spaced, line, Appended}
+use Rattle.format.specs.Text.{line, Appended}
 use Rattle.format.proofs.Appending.{appended-more}
 use Rattle.format.proofs.Lines.{line-length}
 use Rattle.format.proofs.text.line.Statement.{statement}

@@ -1,12 +1,10 @@
 -- `format::text::spaced_number` meets its contract. Assumes nothing.
 use Prim.Native.Nat.{_≤_}
 use native.Mathlib.Omega.{arith}
-use mathlib.Core.Path.{_≡_, sym, _∙_, ap}
-use mathlib.Core.List.{List, [], _∷_, _++_}
+use mathlib.Core.Path.{ap}
 use lib.ListN.{length}
 use borrow.Author.Needs.{needs}
-use Rattle.format.specs.Ascii.{ascii}
-use Rattle.format.specs.Text.{decimal, spaced, Appended}
+use Rattle.format.specs.Text.{Appended}
 use Rattle.format.proofs.Appending.{appended-more}
 use Rattle.format.proofs.Lines.{spaced-one}
 use Rattle.format.proofs.text.spaced_number.Statement.{statement}

@@ -1,8 +1,7 @@
 -- The invariant: the first i numbers are put. Assumes nothing.
 use Prim.Native.Nat.{_+_, _≤_, _<_, _-_}
 use native.Mathlib.Omega.{arith}
-use mathlib.Core.Path.{_≡_, ap}
-use mathlib.Core.List.{List}
+use mathlib.Core.Path.{_≡_}
 use lib.ListN.{length, take}
 use lib.Seq.{take-all}
 use borrow.Author.Needs.{needs}

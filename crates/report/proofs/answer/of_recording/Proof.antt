@@ -1,15 +1,10 @@
 -- `report::answer::of_recording` meets its contract. Assumes nothing.
-use Prim.Native.Nat.{ℕ, _≤_}
+use Prim.Native.Nat.{ℕ}
 use native.Mathlib.Omega.{arith}
-use mathlib.Core.Path.{_≡_, refl, sym, subst}
-use mathlib.Core.List.{List, [], _∷_}
-use lib.ListN.{length}
+use mathlib.Core.Path.{refl, sym, subst}
+use mathlib.Core.List.{List}
 use borrow.Author.Needs.{needs}
-use Rattle.row.specs.Samples.{allFinite}
-use Rattle.elements.specs.Element.{elementsIn}
-use Rattle.cancel.specs.Questions.{ask, firstNo}
 use Rattle.format.specs.Text.{Appended}
-use Rattle.report.specs.Report.{runLines, refusal, answered}
 use Rattle.report.proofs.Room.{refusal-most}
 use Rattle.report.proofs.Asks.{Lent, rate-bits, hint-bits, refused-is, done-is, done-room}
 use Rattle.report.proofs.answer.of_recording.Statement.{statement}

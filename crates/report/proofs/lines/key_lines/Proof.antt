@@ -2,13 +2,11 @@
 use Prim.Native.Nat.{_+_, _-_, _*_, _≤_, _<_}
 use native.Mathlib.Omega.{arith}
 use mathlib.Core.Path.{_≡_, sym, subst}
-use mathlib.Core.List.{List}
 use lib.ListN.{length}
 use borrow.Author.Needs.{needs}
 use Rattle.elements.specs.declared.element.KeyedElement.{KeyedElement}
-use Rattle.elements.specs.Element.{ELEMENT, elementAt, elementsIn}
+use Rattle.elements.specs.Element.{ELEMENT, elementsIn}
 use Rattle.format.specs.Text.{Appended}
-use Rattle.format.proofs.Appending.{appended-none, appended-more}
 use Rattle.report.specs.Report.{keyLine, keyLines}
 use Rattle.report.proofs.Keys.{keys-none, keys-turn, keys-room, keys-done}
 use Rattle.report.proofs.lines.key_lines.Statement.{statement}
