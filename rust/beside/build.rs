@@ -64,7 +64,7 @@ fn compiler_has_let_else() -> bool {
     let said = env::var_os("RUSTC").and_then(|rustc| Command::new(rustc).arg("--version").output().ok());
     let said = said.map(|o| String::from_utf8_lossy(&o.stdout).into_owned()).unwrap_or_default();
     let minor = said.split('.').nth(1).and_then(|n| n.parse::<u32>().ok());
-    minor.map_or(true, |minor| minor >= 65)
+    !matches!(minor, Some(minor) if minor < 65)
 }
 
 fn folder(variable: &str) -> Result<PathBuf, String> {
