@@ -1,6 +1,7 @@
 //! Files that are written whole or not at all.
 
 use crate::problem::Problem;
+use crate::sigmf;
 use num_complex::Complex32;
 use std::fs::{self, File};
 use std::io::Write;
@@ -27,12 +28,22 @@ impl Staged {
         Ok(staged)
     }
 
-    /// The samples as little-endian f32 pairs.
-    pub fn samples(path: &Path, samples: &[Complex32]) -> Result<Staged, Problem> {
+    /// A recording: little-endian f32 pairs, with metadata beside them if the name is one of a SigMF pair.
+    pub fn recording(path: &Path, samples: &[Complex32], rate: f64) -> Result<Vec<Staged>, Problem> {
         let bytes: Vec<u8> = samples.iter().flat_map(|x| [x.re, x.im]).flat_map(f32::to_le_bytes).collect();
+        match sigmf::pair(path) {
+            None => Ok(vec![Staged::bytes(path, &bytes)?]),
+            Some(pair) => Ok(vec![
+                Staged::bytes(&pair.data, &bytes)?,
+                Staged::bytes(&pair.meta, sigmf::metadata(rate).as_bytes())?,
+            ]),
+        }
+    }
+
+    fn bytes(path: &Path, bytes: &[u8]) -> Result<Staged, Problem> {
         Staged::new(path, |beside| {
             File::create(beside)
-                .and_then(|mut file| file.write_all(&bytes).and_then(|()| file.sync_all()))
+                .and_then(|mut file| file.write_all(bytes).and_then(|()| file.sync_all()))
                 .map_err(|e| e.to_string())
         })
     }
