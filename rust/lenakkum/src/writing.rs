@@ -19,8 +19,11 @@ impl Staged {
     pub fn new(path: &Path, fill: impl FnOnce(&Path) -> Result<(), String>) -> Result<Staged, Problem> {
         let wrong = |why: String| Problem::with(path.display(), why);
         let name = path.file_name().ok_or_else(|| wrong("it is not the name of a file".to_string()))?;
-        if path.is_dir() {
-            return Err(wrong("it is a folder".to_string()));
+        // What is put there takes the place of a file, and must not take that of a device.
+        match fs::metadata(path) {
+            Ok(there) if there.is_dir() => return Err(wrong("it is a folder".to_string())),
+            Ok(there) if !there.is_file() => return Err(wrong("it is not a regular file".to_string())),
+            _ => {}
         }
         let hidden = format!(".{}-{}", process::id(), name.to_string_lossy());
         let staged = Staged { beside: path.with_file_name(hidden), path: path.to_path_buf() };

@@ -215,6 +215,7 @@ fn wrong_input() {
         ("run one.cf32 --rate nan", "'nan' for '--rate <HZ>': it is not a number"),
         ("run one.cf32 --rate 3000 --hint -x", "'-x' for '--hint <HZ>': it is not a number"),
         ("run one.cf32 --rate 3000 --out folder", "folder: it is a folder"),
+        ("run one.cf32 --rate 3000 --out /dev/null", "/dev/null: it is not a regular file"),
         ("run one.cf32 --rate 3000 --out none/left.cf32", "none/left.cf32: No such file"),
         ("run one.cf32 one.cf32 --rate 3000 --out left.cf32", "--out: it is for one recording"),
         ("run one.cf32 --rate 3000 --loud", "'--loud'"),
