@@ -18,7 +18,9 @@ impl Staged {
     /// Fills a file beside the place, by its path. It has the same extension as the place.
     pub fn new(path: &Path, fill: impl FnOnce(&Path) -> Result<(), String>) -> Result<Staged, Problem> {
         let wrong = |why: String| Problem::with(path.display(), why);
-        let name = path.file_name().ok_or_else(|| wrong("it is not the name of a file".to_string()))?;
+        // A link stays, and what it leads to is replaced.
+        let place = fs::canonicalize(path).unwrap_or_else(|_| path.to_path_buf());
+        let name = place.file_name().ok_or_else(|| wrong("it is not the name of a file".to_string()))?;
         // What is put there takes the place of a file, and must not take that of a device.
         match fs::metadata(path) {
             Ok(there) if there.is_dir() => return Err(wrong("it is a folder".to_string())),
@@ -26,7 +28,7 @@ impl Staged {
             _ => {}
         }
         let hidden = format!(".{}-{}", process::id(), name.to_string_lossy());
-        let staged = Staged { beside: path.with_file_name(hidden), path: path.to_path_buf() };
+        let staged = Staged { beside: place.with_file_name(hidden), path: place };
         fill(&staged.beside).map_err(wrong)?;
         Ok(staged)
     }
