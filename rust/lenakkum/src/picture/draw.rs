@@ -32,7 +32,7 @@ const LARGE: i32 = 25;
 type Drawn = Result<(), String>;
 
 /// Draws it all onto an area of a picture.
-pub fn drawn<B: DrawingBackend>(area: &DrawingArea<B, Shift>, shown: &Shown<'_>) -> Drawn {
+pub(super) fn drawn<B: DrawingBackend>(area: &DrawingArea<B, Shift>, shown: &Shown<'_>) -> Drawn {
     area.fill(&WHITE).map_err(said)?;
     let (title, rest) = area.split_vertically(TITLE);
     let (row, rest) = rest.split_vertically(ROW);

@@ -18,7 +18,7 @@ impl Lane {
     }
 }
 
-pub fn all(subject: &Subject<'_>, row: &AmplitudeRow, classes: &[BlockClass]) -> Vec<Lane> {
+pub(super) fn all(subject: &Subject<'_>, row: &AmplitudeRow, classes: &[BlockClass]) -> Vec<Lane> {
     let f = &subject.figures;
     let elements = subject.elements.iter().map(|k| (k.element.start, k.element.end));
     let fitted: Vec<(f64, f64)> = subject.estimate.fits.iter().map(|f| (f.element.start, f.element.end)).collect();
