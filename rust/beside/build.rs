@@ -11,7 +11,8 @@ mod redirect;
 mod tables;
 
 use std::path::{Path, PathBuf};
-use std::{env, fs, process};
+use std::process::{self, Command};
+use std::{env, fs};
 
 /// The file that holds cancel.rs, in the folder of documents.
 const CANCEL_RS: &str = "src--crates--manta-dsp--src--cancel.rs.txt";
@@ -33,7 +34,11 @@ fn prepare() -> Result<(), String> {
     let file = docs.join(CANCEL_RS);
     println!("cargo:rerun-if-changed={}", file.display());
     let text = match fs::read_to_string(&file) {
-        Ok(text) => text,
+        Ok(text) if compiler_has_let_else() => text,
+        Ok(_) => {
+            println!("cargo:warning=cancel.rs needs Rust 1.65: it is not compiled, and its test is left out");
+            return Ok(());
+        }
         Err(_) => {
             println!("cargo:warning=the text of cancel.rs is not in {}: CANCEL_DOCS=DIR names it", docs.display());
             return Ok(());
@@ -52,6 +57,14 @@ fn prepare() -> Result<(), String> {
          /// cancel.rs as published.\n#[path = {platform:?}]\npub mod by_platform;\n"
     );
     write(&out.join("modules.rs"), &modules)
+}
+
+/// cancel.rs has a `let .. else`, which came with Rust 1.65. The package itself does with less.
+fn compiler_has_let_else() -> bool {
+    let said = env::var_os("RUSTC").and_then(|rustc| Command::new(rustc).arg("--version").output().ok());
+    let said = said.map(|o| String::from_utf8_lossy(&o.stdout).into_owned()).unwrap_or_default();
+    let minor = said.split('.').nth(1).and_then(|n| n.parse::<u32>().ok());
+    !matches!(minor, Some(minor) if minor < 65)
 }
 
 fn folder(variable: &str) -> Result<PathBuf, String> {

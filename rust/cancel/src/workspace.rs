@@ -136,6 +136,7 @@ impl Workspace {
             fs,
             carrier_hz: figures[0],
             carrier_step_hz: figures[1],
+            counts: Some(counts),
             element_count: counts.listed,
             fit_count: figures[6] as usize,
             workspace: self,
@@ -154,6 +155,7 @@ impl Workspace {
             fs,
             carrier_hz: est.carrier_hz,
             carrier_step_hz: est.carrier_step_hz,
+            counts: None,
             element_count: est.elements.len(),
             fit_count: est.fits.len(),
             workspace: self,
@@ -223,6 +225,7 @@ pub struct Estimate<'w> {
     fs: f64,
     carrier_hz: f64,
     carrier_step_hz: f64,
+    counts: Option<KeyDownCounts>,
     element_count: usize,
     fit_count: usize,
     workspace: &'w mut Workspace,
@@ -237,6 +240,11 @@ impl Estimate<'_> {
     /// The refined carrier less the hint.
     pub fn carrier_step_hz(&self) -> f64 {
         self.carrier_step_hz
+    }
+
+    /// How many key-downs the second find saw; `None` of an estimate that was given.
+    pub fn counts(&self) -> Option<KeyDownCounts> {
+        self.counts
     }
 
     /// The listed key-downs. Those of an estimate that was given have no positions: both are 0.

@@ -40,7 +40,7 @@ pub struct Run {
     /// Report as JSON, with every figure, key-down and fit; one line for each recording
     #[arg(long)]
     pub json: bool,
-    /// Write the recording as the run leaves it, as .cf32
+    /// Write the recording as the run leaves it: .cf32, or a SigMF pair if FILE is named as one
     #[arg(long, value_name = "FILE")]
     pub out: Option<PathBuf>,
     /// Draw what the run saw and did

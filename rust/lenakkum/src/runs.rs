@@ -93,7 +93,7 @@ fn ran(
     let wrong = |problem| (String::new(), problem);
     let mut staged = Vec::new();
     if let Some(out) = &args.out {
-        staged.push(Staged::samples(out, samples).map_err(wrong)?);
+        staged.extend(Staged::recording(out, samples, *rate).map_err(wrong)?);
     }
     #[cfg(feature = "pictures")]
     if let Some(path) = &args.picture {

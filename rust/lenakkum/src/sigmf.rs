@@ -1,7 +1,7 @@
 //! SigMF pairs: a file of metadata in JSON beside a file of samples.
 
 use crate::problem::Problem;
-use serde_json::Value;
+use serde_json::{json, Value};
 use std::fs;
 use std::path::{Path, PathBuf};
 
@@ -49,4 +49,14 @@ pub fn rate(meta: &Path) -> Result<f64, Problem> {
         Some(None) => Err(wrong("its rate (core:sample_rate) is not a number".to_string())),
         None => Err(wrong("it does not say the rate (core:sample_rate)".to_string())),
     }
+}
+
+/// The metadata of a recording of one channel at this rate.
+pub fn metadata(rate: f64) -> String {
+    let metadata = json!({
+        "global": { "core:datatype": TYPE, "core:sample_rate": rate, "core:version": "1.0.0" },
+        "captures": [{ "core:sample_start": 0 }],
+        "annotations": [],
+    });
+    format!("{metadata:#}\n")
 }

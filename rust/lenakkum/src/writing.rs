@@ -1,6 +1,7 @@
 //! Files that are written whole or not at all.
 
 use crate::problem::Problem;
+use crate::sigmf;
 use num_complex::Complex32;
 use std::fs::{self, File};
 use std::io::Write;
@@ -17,22 +18,37 @@ impl Staged {
     /// Fills a file beside the place, by its path. It has the same extension as the place.
     pub fn new(path: &Path, fill: impl FnOnce(&Path) -> Result<(), String>) -> Result<Staged, Problem> {
         let wrong = |why: String| Problem::with(path.display(), why);
-        let name = path.file_name().ok_or_else(|| wrong("it is not the name of a file".to_string()))?;
-        if path.is_dir() {
-            return Err(wrong("it is a folder".to_string()));
+        // A link stays, and what it leads to is replaced.
+        let place = fs::canonicalize(path).unwrap_or_else(|_| path.to_path_buf());
+        let name = place.file_name().ok_or_else(|| wrong("it is not the name of a file".to_string()))?;
+        // What is put there takes the place of a file, and must not take that of a device.
+        match fs::metadata(path) {
+            Ok(there) if there.is_dir() => return Err(wrong("it is a folder".to_string())),
+            Ok(there) if !there.is_file() => return Err(wrong("it is not a regular file".to_string())),
+            _ => {}
         }
         let hidden = format!(".{}-{}", process::id(), name.to_string_lossy());
-        let staged = Staged { beside: path.with_file_name(hidden), path: path.to_path_buf() };
+        let staged = Staged { beside: place.with_file_name(hidden), path: place };
         fill(&staged.beside).map_err(wrong)?;
         Ok(staged)
     }
 
-    /// The samples as little-endian f32 pairs.
-    pub fn samples(path: &Path, samples: &[Complex32]) -> Result<Staged, Problem> {
+    /// A recording: little-endian f32 pairs, with metadata beside them if the name is one of a SigMF pair.
+    pub fn recording(path: &Path, samples: &[Complex32], rate: f64) -> Result<Vec<Staged>, Problem> {
         let bytes: Vec<u8> = samples.iter().flat_map(|x| [x.re, x.im]).flat_map(f32::to_le_bytes).collect();
+        match sigmf::pair(path) {
+            None => Ok(vec![Staged::bytes(path, &bytes)?]),
+            Some(pair) => Ok(vec![
+                Staged::bytes(&pair.data, &bytes)?,
+                Staged::bytes(&pair.meta, sigmf::metadata(rate).as_bytes())?,
+            ]),
+        }
+    }
+
+    fn bytes(path: &Path, bytes: &[u8]) -> Result<Staged, Problem> {
         Staged::new(path, |beside| {
             File::create(beside)
-                .and_then(|mut file| file.write_all(&bytes).and_then(|()| file.sync_all()))
+                .and_then(|mut file| file.write_all(bytes).and_then(|()| file.sync_all()))
                 .map_err(|e| e.to_string())
         })
     }

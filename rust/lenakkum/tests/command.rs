@@ -88,6 +88,22 @@ fn the_report_of_document_01() {
     assert_eq!((said.status.code(), text(&said.stdout)), (Some(0), ONE.into()));
 }
 
+/// The stored reports of the repository's example recordings, which tankair prints too. It takes no more than 16,384
+/// bytes and answers `(run 2)` to half a sample; here the one is no limit and the other is named, as is an empty file.
+#[test]
+fn the_examples() {
+    let examples = Path::new(env!("CARGO_MANIFEST_DIR")).join("../../examples");
+    let recordings = fs::read_dir(&examples).into_iter().flatten().map(|e| e.unwrap().path());
+    for path in recordings.filter(|p| p.extension().map_or(false, |e| e == "iq")) {
+        let size = fs::metadata(&path).unwrap().len();
+        if size == 0 || size % 8 != 0 || size > 16_384 {
+            continue;
+        }
+        let said = lenakkum(&examples, &format!("run {} --rate 3000", path.file_name().unwrap().to_str().unwrap()));
+        assert_eq!(text(&said.stdout), fs::read_to_string(path.with_extension("report")).unwrap(), "{path:?}");
+    }
+}
+
 #[test]
 fn what_the_run_leaves() {
     let folder = folder("out");
@@ -117,6 +133,11 @@ fn sigmf_and_json() {
         let offset = json["evidence"]["offset_hz"].as_f64().unwrap();
         assert!((offset - 60.0).abs() < 2.0, "{offset}");
     }
+    // What is written as a pair is read as one.
+    lenakkum(&folder, "run two.sigmf-meta --out left.sigmf-meta");
+    let said = lenakkum(&folder, "run left.sigmf-data --statement");
+    assert!(text(&said.stdout).starts_with("(run 0\n(size 2048 8 256)\n"), "{}", text(&said.stdout));
+    assert_eq!(names(&folder), ["left.sigmf-data", "left.sigmf-meta", "two.sigmf-data", "two.sigmf-meta"]);
 }
 
 #[test]
@@ -194,6 +215,7 @@ fn wrong_input() {
         ("run one.cf32 --rate nan", "'nan' for '--rate <HZ>': it is not a number"),
         ("run one.cf32 --rate 3000 --hint -x", "'-x' for '--hint <HZ>': it is not a number"),
         ("run one.cf32 --rate 3000 --out folder", "folder: it is a folder"),
+        ("run one.cf32 --rate 3000 --out /dev/null", "/dev/null: it is not a regular file"),
         ("run one.cf32 --rate 3000 --out none/left.cf32", "none/left.cf32: No such file"),
         ("run one.cf32 one.cf32 --rate 3000 --out left.cf32", "--out: it is for one recording"),
         ("run one.cf32 --rate 3000 --loud", "'--loud'"),

@@ -32,7 +32,7 @@ const LARGE: i32 = 25;
 type Drawn = Result<(), String>;
 
 /// Draws it all onto an area of a picture.
-pub fn drawn<B: DrawingBackend>(area: &DrawingArea<B, Shift>, shown: &Shown<'_>) -> Drawn {
+pub(super) fn drawn<B: DrawingBackend>(area: &DrawingArea<B, Shift>, shown: &Shown<'_>) -> Drawn {
     area.fill(&WHITE).map_err(said)?;
     let (title, rest) = area.split_vertically(TITLE);
     let (row, rest) = rest.split_vertically(ROW);
@@ -224,11 +224,8 @@ fn ink(lane: &Lane) -> RGBColor {
 
 fn draw_neighbour<B: DrawingBackend>(area: &DrawingArea<B, Shift>, shown: &Shown<'_>) -> Drawn {
     let neighbour = match &shown.neighbour {
-        Some(neighbour) => neighbour,
-        None => {
-            let line = "No second carrier was seen in the gaps: there is no offset to show an envelope at.";
-            return area.draw_text(line, &text(SMALL), (LEFT as i32, 40)).map_err(said);
-        }
+        Ok(neighbour) => neighbour,
+        Err(why) => return caption(area, why),
     };
     let Neighbour { offset_hz, before, after } = neighbour;
     let top = trace::top(&[&before.amplitudes, &after.amplitudes]);

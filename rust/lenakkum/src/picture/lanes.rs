@@ -18,11 +18,13 @@ impl Lane {
     }
 }
 
-pub fn all(subject: &Subject<'_>, row: &AmplitudeRow, classes: &[BlockClass]) -> Vec<Lane> {
+pub(super) fn all(subject: &Subject<'_>, row: &AmplitudeRow, classes: &[BlockClass]) -> Vec<Lane> {
     let f = &subject.figures;
     let elements = subject.elements.iter().map(|k| (k.element.start, k.element.end));
     let fitted: Vec<(f64, f64)> = subject.estimate.fits.iter().map(|f| (f.element.start, f.element.end)).collect();
-    let skipped = elements.clone().filter(|e| !fitted.contains(e)).collect::<Vec<_>>();
+    // Fits come in the order of their elements.
+    let mut next = fitted.iter().peekable();
+    let skipped: Vec<(f64, f64)> = elements.clone().filter(|e| next.next_if_eq(&e).is_none()).collect();
     let class = |name, count, class| Lane::new(name, count, blocks(classes, class, f.window));
     vec![
         Lane::new("listed", f.listed, elements),
@@ -45,13 +47,14 @@ fn short(subject: &Subject<'_>, row: &AmplitudeRow) -> Vec<(f64, f64)> {
     };
     let step = subject.figures.window / 8;
     let centre = |i: usize| (i * step) as f64 + (subject.figures.window as f64 - 1.0) / 2.0;
+    let mut listed = subject.elements.iter().map(|k| (k.up, k.down)).peekable();
     let (mut spans, mut up) = (Vec::new(), None);
     for i in 1..row.len() {
         if row[i - 1] < threshold && row[i] >= threshold {
             up = Some(i);
         } else if row[i - 1] >= threshold && row[i] < threshold {
             if let Some(up) = up.take() {
-                if !subject.elements.iter().any(|k| (k.up, k.down) == (up, i)) {
+                if listed.next_if_eq(&(up, i)).is_none() {
                     spans.push((centre(up - 1), centre(i)));
                 }
             }

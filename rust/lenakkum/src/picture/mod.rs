@@ -33,7 +33,7 @@ struct Shown<'a> {
     /// At the strong sender's carrier.
     row: AmplitudeRow,
     lanes: Vec<lanes::Lane>,
-    neighbour: Option<Neighbour>,
+    neighbour: Result<Neighbour, &'static str>,
 }
 
 /// The amplitude row at the neighbour's offset.
@@ -96,21 +96,30 @@ fn staged(path: &Path, subject: &Subject<'_>) -> Result<Staged, Problem> {
 }
 
 fn shown<'a>(subject: &'a Subject<'a>, vectors: bool) -> Result<Shown<'a>, Refusal> {
-    let (rate, carrier_hz) = (subject.rate, subject.figures.carrier_hz);
-    let classes = block_classes(subject.before.len(), rate, &subject.estimate)?;
+    let classes = block_classes(subject.before.len(), subject.rate, &subject.estimate)?;
     // A refined carrier may lie beyond half the rate, where a row is refused. There is then none to show.
-    let row = row(subject.before, rate, carrier_hz)?.unwrap_or(AmplitudeRow { amplitudes: vec![], threshold: None });
-    let neighbour = match subject.figures.evidence.offset_hz {
-        Some(offset_hz) => {
-            let at = carrier_hz + offset_hz;
-            let (before, after) = (self::row(subject.before, rate, at)?, self::row(subject.after, rate, at)?);
-            before.zip(after).map(|(before, after)| Neighbour { offset_hz, before, after })
-        }
-        None => None,
-    };
+    let row = row(subject.before, subject.rate, subject.figures.carrier_hz)?;
+    let row = row.unwrap_or(AmplitudeRow { amplitudes: vec![], threshold: None });
     let lanes = lanes::all(subject, &row, &classes);
-    let seconds = subject.before.len().max(1) as f64 / rate;
-    Ok(Shown { of: subject, vectors, seconds, row, lanes, neighbour })
+    let seconds = subject.before.len().max(1) as f64 / subject.rate;
+    Ok(Shown { of: subject, vectors, seconds, row, lanes, neighbour: neighbour(subject)? })
+}
+
+/// The envelope at the offset that the evidence has, before and after, or why there is none.
+fn neighbour(subject: &Subject<'_>) -> Result<Result<Neighbour, &'static str>, Refusal> {
+    let offset_hz = match subject.figures.evidence.offset_hz {
+        Some(offset_hz) => offset_hz,
+        None => {
+            return Ok(Err("No second carrier was seen in the gaps, so there is no offset to show an envelope at."))
+        }
+    };
+    let at = subject.figures.carrier_hz + offset_hz;
+    let (before, after) = (row(subject.before, subject.rate, at)?, row(subject.after, subject.rate, at)?);
+    Ok(match (before, after) {
+        (Some(before), Some(after)) => Ok(Neighbour { offset_hz, before, after }),
+        (None, _) => Err("The neighbour's offset lies beyond half the rate, where no envelope is computed."),
+        (_, None) => Err("What the run left has infinite samples, of which no envelope is computed."),
+    })
 }
 
 /// The row at a carrier; none where the library takes no such carrier, or no such samples.
