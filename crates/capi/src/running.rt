@@ -6,6 +6,7 @@ use cancel::Figures;
 use cancel::RunAnswer;
 use std::num::nearest_u64_to_f64;
 ghost use mathlib.Core.Path.{_≡_};
+ghost use Rattle.row.specs.Samples.{Singles};
 ghost use Rattle.fits.specs.Estimate.{strongEstimate};
 ghost use Rattle.capi.specs.Running.{takenOf, ranFigures, runCalled, runCall};
 
@@ -60,6 +61,7 @@ fn figures_of(f: Figures) -> [f64; 28]
     ]
 }
 
+// Each number that the buffer held is an f32, as in cancel::run.
 #[no_mangle]
 pub extern "C" fn cancel_run(
     buf: &mut [f32],
@@ -72,6 +74,7 @@ pub extern "C" fn cancel_run(
 ) -> u64
     ensures { λ r. ⌜ runCalled r (strongEstimate (now (buf .entry)) fs «hint_hz») (now (buf .exit)) (now (elements .exit)) (now (fits .exit)) (now (work .exit)) (now (figures .exit))
         ≡ runCall (now (buf .entry)) fs «hint_hz» (now (elements .entry)) (now (fits .entry)) (now (work .entry)) (now (figures .entry)) ⌝ }
+    ensures { λ _. ⌜ Singles (now (buf .entry)) ⌝ }
 {
     match cancel::run(buf, fs, hint_hz, elements, fits, work) {
         RunAnswer::Refused(no) => no,
