@@ -46,12 +46,18 @@ pub accepts : {A : Type 0} (first : ℕ) (result : A) (lent : List (List Float))
 unfolding byNumber
 accepts first result lent n r e h q = let none : first ≡ 0 = omega arith in rw (none, q)
 
--- and what they show: a refusal's number is not 0, and of an accepted call every answer was yes
+-- and what they show: a refusal's number is not 0 and is the first no's, and of an accepted call every answer was yes
 pub refused-by : {A : Type 0} (first : ℕ) (result : A) (lent : List (List Float)) (n : ℕ) (l : List (List Float))
     → refused n l ≡ byNumber first result lent → n ≡ 0 → ⊥
 unfolding byNumber
 refused-by zero result lent n l e h = let never : _≡_ {A = ℕ} 0 1 = cc in omega arith
 refused-by (suc first) result lent n l e h = let same : n ≡ suc first = cc in omega arith
+
+pub refused-first : {A : Type 0} (first : ℕ) (result : A) (lent : List (List Float)) (n : ℕ) (l : List (List Float))
+    → refused n l ≡ byNumber first result lent → n ≡ first
+unfolding byNumber
+refused-first zero result lent n l e = let never : _≡_ {A = ℕ} 0 1 = cc in absurd (omega arith)
+refused-first (suc first) result lent n l e = cc
 
 pub accepted-by : {A : Type 0} (first : ℕ) (result : A) (lent : List (List Float)) (r : A) → accepted r ≡ byNumber first result lent
     → (first ≡ 0) × (r ≡ result)

@@ -1,14 +1,15 @@
 -- Laws that the proofs of `cancel` share and that the crates above cite, by subject.
 
 -- FirstNo     the first no of a list of questions, as the code asks them: ruleset `ways`; where it is 0, each answer
---             is yes: `yes-at`
+--             is yes: `yes-at`, and it is where they are: `all-yes`; else it is a question's: `first-asked`, `first-most`
 -- Given       question 7: tests one after the other, ruleset `answers`; the loop over given records, ruleset `given`;
 --             what a yes says of them: `all-timed`, `elements-fit`, `fit-sized`, `fits-fit`, `estimate-sized`
 -- Accepted    what yes to questions 2, 3, 5 and 6 shows: `recording-is`, `element-places`, `fit-places`, `work-room`;
---             the two ways out of a call, and what they show: `refuses`, `accepts`, `refused-by`, `accepted-by`
+--             the two ways out of a call, and what they show: `refuses`, `accepts`, `refused-by`, `refused-first`,
+--             `accepted-by`
 -- FindAccepted, FitAccepted, EstimateAccepted, ResidualAccepted, EvidenceAccepted, SubtractAccepted, RunAccepted
 --             of each call: what it goes on with, `find-accepted`; its result by its parts, `find-result`; what its
---             promise says: `find-refused`, `find-done`; `estimate-counts`
+--             promise says: `find-refused`, `find-done`; `estimate-counts`; `run-number`, `run-accepts`
 -- Handed      theorems on what an accepted call hands out, in 01's terms: `find-exactly`, `find-counted`,
 --             `find-nothing`; `fit-elements-are`, `fit-each`, `fit-skipped`; `estimate-exactly`, `estimate-counted`,
 --             `estimate-nothing`,
