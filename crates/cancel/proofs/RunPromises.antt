@@ -8,7 +8,7 @@ use mathlib.Core.Path.{_≡_, refl, sym, ap, _∙_, subst}
 use mathlib.Core.Logic.{_≢_, _⊎_, ⊎-elim}
 use mathlib.Core.Bool.{Bool, true, false, not, cond}
 use mathlib.Core.List.{List, [], map, List·Memᴰ}
-use lib.ListN.{length, getD}
+use lib.ListN.{length, length-map, getD}
 use lib.Ieee.{Float, nan, le}
 use Rattle.float.specs.Ops.{_⊘_, plus-zero}
 use Rattle.float.specs.Size.{finiteF}
@@ -121,9 +121,13 @@ module _ (buf : List Float) (fs hint : Float) (elements fits work : List Float) 
   pub fits-each : (g : ElementFit) → List·Memᴰ g fits-out → fitOf buf fs (f .estimate .«carrier_hz» ⊘ fs) (g .element) ≡ Fitted g
   fits-each g m = rw at-refined (strong-fit-is buf fs hint g (rw fits-out-are at m))
 
-  pub fitted-counted : f .estimate .fitted ≡ length fits-out
+  -- fitted is how many of the listed elements are not skipped
+  pub fitted-counted : f .estimate .fitted ≡ length (those (λ e. not (isSkipped (fitOf buf fs (f .estimate .«carrier_hz» ⊘ fs) e))) elements-out)
   unfolding fitsIn
-  fitted-counted = sym (length-firsts (fitAt fits-left) (f .estimate .fitted))
+  fitted-counted =
+      let handed-out = length-firsts (fitAt fits-left) (f .estimate .fitted) in
+      let each = length-map fits-out (λ g. g .element) in
+      sym handed-out ∙ sym each ∙ ap length fits-of-listed
 
   pub skipped-is : f .skipped ≡ length (skippedOf buf fs (f .estimate .«carrier_hz») elements-out)
   unfolding runFigures
