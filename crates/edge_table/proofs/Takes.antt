@@ -13,10 +13,10 @@ use Rattle.measure.specs.declared.residual.ResidualCheck.{ResidualCheck}
 use Rattle.measure.specs.Residual.{cleanOf}
 use Rattle.engine.specs.Run.{takes}
 
--- a residual check with these ratios
-abbrev ratios : Float → Float → ResidualCheck
-ratios edge interior =
-    record { «edge_over_neighbour_db» = edge; «interior_over_neighbour_db» = interior; «edge_blocks» = 1; «interior_blocks» = 1; «gap_blocks» = 1 }
+-- a residual check with these ratios, of so many edge, interior and gap blocks
+abbrev ratios : Float → Float → ℕ → ℕ → ℕ → ResidualCheck
+ratios edge interior e i g =
+    record { «edge_over_neighbour_db» = edge; «interior_over_neighbour_db» = interior; «edge_blocks» = e; «interior_blocks» = i; «gap_blocks» = g }
 
 -- the next f64 above 5, above −7 and above −10
 abbrev above-5 : Float
@@ -29,10 +29,11 @@ abbrev above-10 : Float
 above-10 = neg (fraction (10 * 2 ^ 49 - 1) (2 ^ 49))
 
 -- TwoSignalCw, 20 fits, a step of 5 to either side, both ratios at their thresholds: taken
-pub all-four : (takes (TwoSignalCw (of 10)) 20 (of 5) (ratios (neg (of 7)) (neg (of 10))) ≡ true)
-    × (takes (TwoSignalCw (of 10)) 20 (neg (of 5)) (ratios (neg (of 7)) (neg (of 10))) ≡ true)
+pub all-four : (e i g : ℕ)
+    → (takes (TwoSignalCw (of 10)) 20 (of 5) (ratios (neg (of 7)) (neg (of 10)) e i g) ≡ true)
+    × (takes (TwoSignalCw (of 10)) 20 (neg (of 5)) (ratios (neg (of 7)) (neg (of 10)) e i g) ≡ true)
 unfolding takes cleanOf MAX_CARRIER_STEP_HZ CLEAN_EDGE_OVER_NEIGHBOUR_DB CLEAN_INTERIOR_OVER_NEIGHBOUR_DB absOf neg le lt eq ofInt
-all-four = (refl, refl)
+all-four e i g = (refl, refl)
 
 -- any other hypothesis, 19 fits, a step above 5 to either side or a NaN, a ratio above its threshold: kept, whatever
 -- the rest
@@ -60,7 +61,7 @@ module _ (h : Hypothesis) where
     unfolding takes
     not-clean step r e = rw (e, and-false)
 
-    pub large-ratios : (step other : Float)
-        → (takes h fitted step (ratios above-7 other) ≡ false) × (takes h fitted step (ratios other above-10) ≡ false)
+    pub large-ratios : (step other : Float) (e i g : ℕ)
+        → (takes h fitted step (ratios above-7 other e i g) ≡ false) × (takes h fitted step (ratios other above-10 e i g) ≡ false)
     unfolding cleanOf CLEAN_EDGE_OVER_NEIGHBOUR_DB CLEAN_INTERIOR_OVER_NEIGHBOUR_DB fraction round neg le lt eq ofInt
-    large-ratios step other = (not-clean step (ratios above-7 other) refl, not-clean step (ratios other above-10) (rw and-false))
+    large-ratios step other e i g = (not-clean step (ratios above-7 other e i g) refl, not-clean step (ratios other above-10 e i g) (rw and-false))
