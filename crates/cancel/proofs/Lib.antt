@@ -1,7 +1,7 @@
 -- Laws that the proofs of `cancel` share and that the crates above cite, by subject.
 
 -- FirstNo     the first no of a list of questions, as the code asks them: ruleset `ways`; where it is 0, each answer
---             is yes: `yes-at`, and it is where they are: `all-yes`; else it is a question's: `first-asked`, `first-most`
+--             is yes: `yes-at`; where each is, it is 0: `all-yes`; else it is a question's: `first-asked`, `first-most`
 -- Given       question 7: tests one after the other, ruleset `answers`; the loop over given records, ruleset `given`;
 --             what a yes says of them: `all-timed`, `elements-fit`, `fit-sized`, `fits-fit`, `estimate-sized`
 -- Accepted    what yes to questions 2, 3, 5 and 6 shows: `recording-is`, `element-places`, `fit-places`, `work-room`;
