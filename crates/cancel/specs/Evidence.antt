@@ -1,6 +1,5 @@
 -- `second_carrier_evidence`, open to callers (01, part 6, with questions 1, 2, 3, 6 and 7), on a given estimate.
--- Definitions
--- only.
+-- Definitions only.
 use Prim.Native.Nat.{ℕ}
 use mathlib.Core.List.{List, [], _∷_, _++_}
 use lib.ListN.{length}
@@ -31,8 +30,7 @@ evidenceOutcome (Refused n) work = refused n (work ∷ [])
 evidenceOutcome (Done r) work = accepted (record { evidence = r; work = length work })
 
 -- The first no is the result, and nothing is written; else the evidence of a second carrier, at the estimate's
--- carrier, elements and
--- fits. The carrier step is asked about and has no part in it.
+-- carrier, elements and fits. The carrier step is asked about and has no part in it.
 unfoldable pub evidenceRule : List Float → Float → Float → Float → List Float → ℕ → List Float → ℕ → List Float → Outcome EvidenceResult
 evidenceRule iq fs hz step elements element-count fits fit-count work =
     byNumber (firstNo (evidenceQuestions iq fs hz step elements element-count fits fit-count (length work)))

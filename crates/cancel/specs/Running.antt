@@ -16,7 +16,7 @@ use Rattle.cancel.specs.declared.running.RunAnswer.the-variants.{Refused
 use Rattle.cancel.specs.Answers.{Outcome, accepted, refused, byNumber}
 use Rattle.cancel.specs.Questions.{Asked, ask, firstNo, recordingQuestions, carrierOk, placesOk, workOk}
 
--- It asks 1 to 6. Each of the two lists to be filled has floor(B/2) places.
+-- It asks 1 to 6. Each of the two lists to be filled needs floor(B/2) places.
 abbrev pub runQuestions : List Float → Float → Float → ℕ → ℕ → ℕ → List Asked
 runQuestions buf fs hint elements fits work =
     let b = stepBlocks buf fs in

@@ -33,7 +33,8 @@ forC told figures (refused n lent) = refused n (figures ∷ lent)
 abbrev pub foundFigures : Found → List Float
 foundFigures f = of (f .«key_downs») ∷ of (f .listed) ∷ of (f .short) ∷ of (f .airtime) ∷ []
 
--- of the number that is returned, 0 for an accepted call, with what the lent slices then hold: `listed` elements
+-- of the number that is returned, 0 for an accepted call, with what the lent slices then hold: `listed` elements, as
+-- many as the rule counts
 abbrev pub findCalled : ℕ → ℕ → List Float → List Float → List Float → Outcome (Called (Handed KeyedElement))
 findCalled n listed elements work figures =
     byNumber n (record { figures = figures; lists = handedElements elements listed; work = length work }) (figures ∷ elements ∷ work ∷ [])
