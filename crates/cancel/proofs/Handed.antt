@@ -17,7 +17,8 @@ use Rattle.row.specs.Envelope.{rowOf, rowLength}
 use Rattle.elements.specs.declared.keying.Found.{Found}
 use Rattle.elements.specs.Element.{elementAt, elementsIn}
 use Rattle.elements.specs.Keying.{LongKeyDowns, RowCounts, noKeyDowns}
-use Rattle.elements.specs.Find.{At, Absent, thresholdOf, foundOf}
+use Rattle.elements.specs.declared.threshold.Threshold.the-variants.{At, Absent}
+use Rattle.elements.specs.Find.{thresholdOf, foundOf}
 use Rattle.elements.proofs.Records.{elements-read}
 use Rattle.elements.proofs.Exactly.{handed-exactly, handed-nothing, counted-exactly, counted-nothing}
 use Rattle.fits.specs.declared.fit.ElementFit.{ElementFit}

@@ -24,7 +24,8 @@ use Rattle.rank.specs.Order.{minusZero}
 use Rattle.elements.specs.declared.element.KeyedElement.{KeyedElement}
 use Rattle.elements.specs.Element.{elementsIn}
 use Rattle.elements.specs.Keying.{LongKeyDowns, RowCounts, noKeyDowns}
-use Rattle.elements.specs.Find.{At, Absent, thresholdOf, foundOf}
+use Rattle.elements.specs.declared.threshold.Threshold.the-variants.{At, Absent}
+use Rattle.elements.specs.Find.{thresholdOf, foundOf}
 use Rattle.elements.proofs.Records.{elements-read}
 use Rattle.elements.proofs.Recording.{all-counted}
 use Rattle.elements.proofs.Exactly.{counted-exactly, counted-nothing}

@@ -29,7 +29,9 @@ use Rattle.elements.specs.declared.element.KeyedElement.{KeyedElement}
 use Rattle.elements.specs.declared.keying.Found.{Found}
 use Rattle.elements.specs.Keying.{upward, downward, pending, keyDowns, crossedAt, elementOf, isLong, long, airtimeOf, listedOf, shortOf, counts, elementsOf, foundTo, elementsTo}
 use Rattle.lists.specs.Those.{those}
-use Rattle.elements.specs.Find.{Threshold, At, halfOf, thresholdOf, foundAt, elementsAt, foundOf, elementsFound}
+use Rattle.elements.specs.declared.threshold.Threshold.{Threshold}
+use Rattle.elements.specs.declared.threshold.Threshold.the-variants.{At}
+use Rattle.elements.specs.Find.{halfOf, thresholdOf, foundAt, elementsAt, foundOf, elementsFound}
 use Rattle.elements.proofs.KeyDowns.{either}
 use Rattle.elements.proofs.Same.{found-same, elements-same}
 use Rattle.elements.proofs.Edges.{step-3000}

@@ -31,7 +31,9 @@ use Rattle.rank.specs.Select.{percentileOf}
 use Rattle.rank.proofs.Sorted.{percentile-none}
 use Rattle.rank.proofs.Among.{percentile-keeps}
 use Rattle.constants.specs.Constants.{EDGE_PERCENTILE}
-use Rattle.elements.specs.Find.{Threshold, At, Absent, halfOf, thresholdOf, keyDownsAt, elementsAt, keyDownsOf, elementsFound}
+use Rattle.elements.specs.declared.threshold.Threshold.{Threshold}
+use Rattle.elements.specs.declared.threshold.Threshold.the-variants.{At, Absent}
+use Rattle.elements.specs.Find.{halfOf, thresholdOf, keyDownsAt, elementsAt, keyDownsOf, elementsFound}
 use Rattle.elements.specs.declared.element.KeyedElement.{KeyedElement}
 use Rattle.elements.specs.Keying.{upward, downward, KeyDown, IsKeyDown, keyDowns, crossedAt, elementOf, listedOf, elementsOf, elementsTo}
 use Rattle.elements.proofs.KeyDowns.{members, listed-is, key-down-is}

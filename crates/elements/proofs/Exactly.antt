@@ -10,7 +10,8 @@ use Rattle.row.specs.Envelope.{rowOf, rowLength}
 use Rattle.elements.specs.declared.keying.Found.{Found}
 use Rattle.elements.specs.Element.{ELEMENT, elementsIn, handed, handedElements}
 use Rattle.elements.specs.Keying.{KeyDown, keyDowns, InOrder, LongKeyDowns, RowCounts, elementOf, long, listedOf, noKeyDowns, counts, elementsOf, foundTo, elementsTo}
-use Rattle.elements.specs.Find.{At, Absent, thresholdOf, keyDownsOf, foundOf, elementsFound}
+use Rattle.elements.specs.declared.threshold.Threshold.the-variants.{At, Absent}
+use Rattle.elements.specs.Find.{thresholdOf, keyDownsOf, foundOf, elementsFound}
 use Rattle.elements.proofs.KeyDowns.{in-order, those-in-order, listed-is}
 use Rattle.elements.proofs.Bounds.{recorded-is}
 use Rattle.elements.proofs.Records.{elements-read}

@@ -13,6 +13,8 @@
 --             `handed-exactly`; counted are all key-downs of the row: `counted-exactly`; without a threshold nothing:
 --             `found-nothing`, `handed-nothing`, `counted-nothing`
 -- Ways        the ways out of `find_elements`
+-- Amplitudes  numbers at the first places of a list: `numbers-handed`, `numbers-read`, `copied-handed`; the ways out of
+--             `amplitude_row`: `row-short`, `row-made`
 -- Edges       at fs 3,000: `step-3000`, `window-3000`
 pub mod Records
 pub mod Reached
@@ -24,4 +26,5 @@ pub mod Bounds
 pub mod Recording
 pub mod Exactly
 pub mod Ways
+pub mod Amplitudes
 pub mod Edges

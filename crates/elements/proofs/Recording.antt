@@ -9,7 +9,9 @@ use lib.Ieee.{Float}
 use Rattle.row.specs.Window.{stepOf, stepBlocks}
 use Rattle.row.specs.Envelope.{rowOf, rowLength}
 use Rattle.elements.specs.Keying.{keyDowns, elementOf, listedOf, counts, elementsOf, foundTo, elementsTo}
-use Rattle.elements.specs.Find.{Threshold, At, Absent, thresholdOf, keyDownsAt, foundAt, elementsAt, keyDownsOf, foundOf, elementsFound}
+use Rattle.elements.specs.declared.threshold.Threshold.{Threshold}
+use Rattle.elements.specs.declared.threshold.Threshold.the-variants.{At, Absent}
+use Rattle.elements.specs.Find.{thresholdOf, keyDownsAt, foundAt, elementsAt, keyDownsOf, foundOf, elementsFound}
 use Rattle.elements.proofs.KeyDowns.{balance, places}
 
 module _ (row : ℕ → Float) (last step : ℕ) (fs : Float) where

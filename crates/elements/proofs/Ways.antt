@@ -25,7 +25,8 @@ use Rattle.elements.specs.declared.keying.Found.{Found}
 use Rattle.elements.specs.Keying.{noKeyDowns, foundTo, elementsTo}
 use Rattle.elements.specs.Element.{ELEMENT, elementsIn, handed, handedElements}
 use Rattle.elements.specs.Inner.{stored}
-use Rattle.elements.specs.Find.{Absent, halfOf, thresholdOf, foundOf, elementsFound}
+use Rattle.elements.specs.declared.threshold.Threshold.the-variants.{Absent}
+use Rattle.elements.specs.Find.{halfOf, thresholdOf, foundOf, elementsFound}
 use Rattle.elements.proofs.Same.{found-same, elements-same}
 use Rattle.elements.proofs.Records.{elements-handed}
 use Rattle.elements.proofs.Recording.{listed-counted, all-counted, enough-places}

@@ -2,7 +2,7 @@
 -- Rust" and the last sentences of "Questions"). Definitions only.
 use Prim.Native.Nat.{ℕ, _+_, _*_, _/_}
 use mathlib.Core.List.{List}
-use lib.ListN.{length, getD, drop}
+use lib.ListN.{length, getD, take, drop}
 use lib.Ieee.{Float, nan}
 use Rattle.lists.specs.Firsts.{firsts}
 use Rattle.elements.specs.declared.element.KeyedElement.{KeyedElement}
@@ -42,3 +42,7 @@ handed width records l = record { records = records; rest = beyondPlaces width l
 -- what a list hands out at its first `count` places of elements
 unfoldable pub handedElements : List Float → ℕ → Handed KeyedElement
 handedElements l count = handed ELEMENT (elementsIn l count) l
+
+-- the same of a list whose places are one number each: no number lies after its last place
+unfoldable pub handedNumbers : List Float → ℕ → Handed Float
+handedNumbers l count = handed 1 (take count l) l

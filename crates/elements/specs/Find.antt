@@ -11,22 +11,28 @@ use Rattle.row.specs.Envelope.{rowOf, rowLength}
 use Rattle.rank.specs.declared.Percentile.{Percentile}
 use Rattle.rank.specs.declared.Percentile.the-variants.{Value, Nothing}
 use Rattle.rank.specs.Select.{percentileOf}
+use Rattle.elements.specs.declared.amplitude.AmplitudeRow.{AmplitudeRow}
 use Rattle.elements.specs.declared.element.KeyedElement.{KeyedElement}
 use Rattle.elements.specs.declared.keying.Found.{Found}
+use Rattle.elements.specs.declared.threshold.Threshold.{Threshold}
+use Rattle.elements.specs.declared.threshold.Threshold.the-variants.{At, Absent}
 use Rattle.elements.specs.Keying.{KeyDown, keyDowns, foundTo, elementsTo, noKeyDowns}
-
--- the threshold of a row, if it has one
-pub data Threshold : Type 0 where
-  At : Float → Threshold
-  Absent : Threshold
 
 -- Threshold: half the 98th percentile. A row with no percentile has none, and one not positive gives no key-downs.
 abbrev pub halfOf : Percentile → Threshold
 halfOf (Value top) = cond (lt plus-zero (half ⊗ top)) (At (half ⊗ top)) Absent
 halfOf Nothing = Absent
 
+-- of a row as a list, and of a recording
+abbrev pub rowThreshold : List Float → Threshold
+rowThreshold row = halfOf (percentileOf row EDGE_PERCENTILE)
+
 unfoldable pub thresholdOf : List Float → Float → Float → Threshold
-thresholdOf iq fs carrier = halfOf (percentileOf (firsts (rowOf iq fs carrier) (rowLength iq fs)) EDGE_PERCENTILE)
+thresholdOf iq fs carrier = rowThreshold (firsts (rowOf iq fs carrier) (rowLength iq fs))
+
+-- how many amplitudes the row of a recording has, and its threshold
+unfoldable pub amplitudeRowOf : List Float → Float → Float → AmplitudeRow
+amplitudeRowOf iq fs carrier = record { amplitudes = rowLength iq fs; threshold = thresholdOf iq fs carrier }
 
 module _ (row : ℕ → Float) (last step : ℕ) (fs : Float) where
   -- of a row whose last position is `last`, at a threshold; without one there is no key-down

@@ -14,7 +14,8 @@ use Rattle.row.specs.Window.{stepOf}
 use Rattle.row.specs.Envelope.{rowOf, rowLength}
 use Rattle.elements.specs.Element.{ELEMENT, elementsIn, handed, handedElements}
 use Rattle.elements.specs.Keying.{LongKeyDowns}
-use Rattle.elements.specs.Find.{At, Absent, thresholdOf, elementsFound}
+use Rattle.elements.specs.declared.threshold.Threshold.the-variants.{At, Absent}
+use Rattle.elements.specs.Find.{thresholdOf, elementsFound}
 use Rattle.elements.proofs.Exactly.{found-exactly, found-nothing}
 use Rattle.elements.proofs.Records.{elements-read}
 use Rattle.elements.proofs.Recording.{listed-counted}

@@ -14,7 +14,9 @@ use Rattle.row.specs.Window.{stepOf, stepBlocks}
 use Rattle.row.specs.Envelope.{rowOf, rowLength}
 use Rattle.elements.specs.declared.element.KeyedElement.{KeyedElement}
 use Rattle.elements.specs.Keying.{KeyDown, keyDowns, elementOf, listedOf, elementsOf, elementsTo}
-use Rattle.elements.specs.Find.{Threshold, At, Absent, thresholdOf, elementsAt, elementsFound}
+use Rattle.elements.specs.declared.threshold.Threshold.{Threshold}
+use Rattle.elements.specs.declared.threshold.Threshold.the-variants.{At, Absent}
+use Rattle.elements.specs.Find.{thresholdOf, elementsAt, elementsFound}
 use Rattle.elements.proofs.KeyDowns.{members, listed-is}
 use Rattle.elements.proofs.Recording.{listed-counted, all-counted, enough-places}
 use Rattle.elements.proofs.Edges.{step-3000}

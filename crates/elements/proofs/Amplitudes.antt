@@ -1,0 +1,65 @@
+-- A list whose places are one number each, and the amplitude row that one hands out: the ways out of `amplitude_row`.
+-- Assumes nothing.
+use Prim.Native.Nat.{ℕ, _*_, _/_, _≤_, _<_}
+use native.Mathlib.Omega.{arith}
+use mathlib.Core.Path.{_≡_, refl, ap, _∙_}
+use mathlib.Core.List.{List, []}
+use lib.ListN.{length, getD, take, drop, drop-of-length-le}
+use lib.Ieee.{Float, nan}
+use Rattle.lists.specs.Fill.{fill}
+use Rattle.lists.specs.Firsts.{firsts}
+use Rattle.lists.proofs.Fill.{length-fill, part-fill}
+use Rattle.lists.proofs.Firsts.{length-firsts, firsts-all}
+use Rattle.row.specs.Window.{stepOf, windowOf, samples}
+use Rattle.row.specs.Envelope.{rowOf, rowLength}
+use Rattle.row.proofs.Rows.{row-none}
+use Rattle.rank.specs.Select.{percentileOf}
+use Rattle.elements.specs.declared.amplitude.AmplitudeRow.{AmplitudeRow}
+use Rattle.elements.specs.declared.threshold.Threshold.{Threshold}
+use Rattle.elements.specs.declared.threshold.Threshold.the-variants.{Absent}
+use Rattle.elements.specs.Element.{handed, handedNumbers}
+use Rattle.elements.specs.Find.{rowThreshold, thresholdOf, amplitudeRowOf}
+
+-- ---- numbers handed out
+
+-- a list that keeps its length and has these numbers at its first places
+pub numbers-handed : (l cur xs : List Float) (n : ℕ) → length cur ≡ length l → take n cur ≡ xs → handedNumbers cur n ≡ handed 1 xs l
+unfolding handed handedNumbers
+numbers-handed l cur xs n size first =
+    let rest : (m : List Float) → drop (1 * (length m / 1)) m ≡ [] = λ m. drop-of-length-le m {i = 1 * (length m / 1)} (omega arith) in
+    rw (first, rest cur, rest l, size)
+
+pub numbers-read : (cur l : List Float) (n : ℕ) (xs : List Float) → handedNumbers cur n ≡ handed 1 xs l → take n cur ≡ xs
+unfolding handed handedNumbers
+numbers-read cur l n xs e = ap (λ h. h .records) e
+
+-- a list to whose start another is copied
+pub copied-handed : (l xs : List Float) → length xs ≤ length l → handedNumbers (fill l 0 (λ k. getD xs k nan) (length xs)) (length xs) ≡ handed 1 xs l
+copied-handed l xs room =
+    let at : ℕ → Float = λ k. getD xs k nan in
+    numbers-handed l (fill l 0 at (length xs)) xs (length xs) (length-fill l 0 at (length xs))
+    (part-fill l 0 at (length xs) nan (omega arith) ∙ firsts-all at xs nan (λ k b. refl))
+
+-- ---- the row
+
+module _ (iq : List Float) (fs carrier : Float) where
+  abbrev row-answered : AmplitudeRow → List Float → List Float → Type 0
+  row-answered r l out =
+      (r ≡ amplitudeRowOf iq fs carrier)
+      × (handedNumbers out (r .amplitudes) ≡ handed 1 (firsts (rowOf iq fs carrier) (rowLength iq fs)) l)
+
+  pub row-short : (l : List Float) (step : ℕ) → step ≡ stepOf fs → length iq / 2 < 8 * step
+      → row-answered (record { amplitudes = 0; threshold = Absent }) l l
+  unfolding amplitudeRowOf thresholdOf firsts percentileOf
+  row-short l step e h =
+      let few : samples iq < windowOf fs = rw (← e) h in
+      (rw (row-none iq fs few), rw (row-none iq fs few) (numbers-handed l l [] 0 refl refl))
+
+  -- v is what the work slice holds of the row, and t its threshold
+  pub row-made : (l out v : List Float) (count : ℕ) (t : Threshold) → v ≡ firsts (rowOf iq fs carrier) (rowLength iq fs)
+      → count ≡ length v → length v ≤ length l → out ≡ fill l 0 (λ k. getD v k nan) (length v) → t ≡ rowThreshold v
+      → row-answered (record { amplitudes = count; threshold = t }) l out
+  unfolding amplitudeRowOf thresholdOf
+  row-made l out v count t is all room copied told =
+      let size : count ≡ rowLength iq fs = all ∙ ap length is ∙ length-firsts (rowOf iq fs carrier) (rowLength iq fs) in
+      (rw (size, told, is), rw (all, copied, ← is) (copied-handed l v room))

@@ -1,0 +1,74 @@
+// The amplitude row of a recording in a lent list, and its threshold.
+use crate::threshold::Threshold;
+use crate::threshold::row_threshold;
+use row::amplitudes;
+use row::edge_step;
+ghost use mathlib.Core.Path.{_≡_};
+ghost use Prim.Native.Nat.{_-_, _*_, _≤_};
+ghost use lib.ListN.{length, getD};
+ghost use lib.Ieee.{nan};
+ghost use Rattle.lists.specs.Fill.{fill};
+ghost use Rattle.lists.specs.Firsts.{firsts};
+ghost use Rattle.trig.specs.Sine.{sineTable};
+ghost use Rattle.row.specs.Window.{Rate, stepBlocks};
+ghost use Rattle.row.specs.Samples.{Iq};
+ghost use Rattle.row.specs.Envelope.{rowOf, rowLength};
+ghost use Rattle.elements.specs.Element.{handed, handedNumbers};
+ghost use Rattle.elements.specs.Find.{amplitudeRowOf};
+
+// How many amplitudes the row has, and its threshold.
+pub struct AmplitudeRow {
+    pub amplitudes: usize,
+    pub threshold: Threshold,
+}
+
+// The numbers of one slice at the start of another.
+fn copy_row(from: &[f64], out: &mut [f64])
+    requires { ⌜ length (now from) ≤ length (now out) ⌝ }
+    ensures { λ _. ⌜ now (out .exit) ≡ fill (now (out .entry)) 0 (λ k. getD (now (from .entry)) k nan) (length (now (from .entry))) ⌝ }
+{
+    let n = from.len();
+    for i in 0..n {
+        out[i] = from[i];
+    }
+}
+
+// Rust: the first half of find_elements, which keeps the row to itself. Here the work slice has it, behind the block
+// means, and the list gets a copy.
+pub fn amplitude_row(
+    iq: &[f32],
+    fs: f64,
+    carrier: f64,
+    row: &mut [f64],
+    work: &mut [f64],
+    sine: &[u64; 1025],
+) -> AmplitudeRow
+    requires { ⌜ Iq (now iq) ⌝ }
+    requires { ⌜ Rate fs ⌝ }
+    requires { ⌜ now sine ≡ sineTable ⌝ }
+    requires { ⌜ rowLength (now iq) fs ≤ length (now row) ⌝ }
+    requires { ⌜ 4 * stepBlocks (now iq) fs ≤ length (now work) ⌝ }
+    ensures { λ r. ⌜ (r ≡ amplitudeRowOf (now (iq .entry)) fs carrier)
+        × (handedNumbers (now (row .exit)) (r .amplitudes)
+        ≡ handed 1 (firsts (rowOf (now (iq .entry)) fs carrier) (rowLength (now (iq .entry)) fs)) (now (row .entry))) ⌝ }
+{
+    let step = edge_step(fs);
+    let n = iq.len() / 2;
+    if n < 8 * step {
+        return AmplitudeRow {
+            amplitudes: 0,
+            threshold: Threshold::Absent,
+        };
+    }
+    let b = n / step;
+    let from = 2 * b;
+    let count = b - 7;
+    let to = from + count;
+    amplitudes(iq, carrier / fs, step, work, sine);
+    let made = &work[from..to];
+    copy_row(made, row);
+    AmplitudeRow {
+        amplitudes: count,
+        threshold: row_threshold(made),
+    }
+}

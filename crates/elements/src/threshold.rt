@@ -1,0 +1,30 @@
+// The threshold of a row of amplitudes.
+use constants::EDGE_PERCENTILE;
+use rank::Percentile;
+use rank::select::percentile;
+ghost use mathlib.Core.Path.{_≡_};
+ghost use Prim.Native.Nat.{_≤_};
+ghost use lib.ListN.{length};
+ghost use Rattle.elements.specs.Find.{rowThreshold};
+
+// The Rust has none where it answers an empty list before it looks at the row.
+pub enum Threshold {
+    At(f64),
+    Absent,
+}
+
+// Rust: `thr` of find_elements, with the two ways out before its loop.
+pub fn row_threshold(row: &[f64]) -> Threshold
+    requires { ⌜ length (now row) ≤ 2097152 ⌝ }
+    ensures { λ r. ⌜ r ≡ rowThreshold (now (row .entry)) ⌝ }
+{
+    let Percentile::Value(top) = percentile(row, EDGE_PERCENTILE) else {
+        return Threshold::Absent;
+    };
+    let thr = 0.5 * top;
+    if thr > 0.0 {
+        Threshold::At(thr)
+    } else {
+        Threshold::Absent
+    }
+}
