@@ -23,9 +23,11 @@
 pub mod FirstNo
 pub mod Given
 pub mod Accepted
+pub mod AmplitudeAccepted
 pub mod FindAccepted
 pub mod FitAccepted
 pub mod EstimateAccepted
+pub mod BlocksAccepted
 pub mod ResidualAccepted
 pub mod EvidenceAccepted
 pub mod SubtractAccepted

@@ -1,5 +1,7 @@
 // The calls open to callers, a file each: it asks 01's questions in its order, then does the work. None has a
 // `requires`; the questions themselves are not open.
+mod amplitude;
+mod blocks;
 mod estimate;
 mod evidence;
 mod find;
@@ -9,7 +11,15 @@ mod removal;
 mod residual;
 mod running;
 
+pub use amplitude::RowAnswer;
+pub use amplitude::amplitude_row;
+pub use blocks::BlockClasses;
+pub use blocks::ClassesAnswer;
+pub use blocks::block_classes;
+pub use classes::ClassCounts;
+pub use elements::AmplitudeRow;
 pub use elements::Found;
+pub use elements::Threshold;
 pub use engine::Figures;
 pub use estimate::EstimateAnswer;
 pub use estimate::estimate_strong;

@@ -5,10 +5,13 @@ use elements::element_at;
 use fits::ElementFit;
 use fits::FIT;
 use fits::fit_at;
+use row::edge_step;
 use row::step_blocks;
 ghost use mathlib.Core.Path.{_≡_};
 ghost use Prim.Native.Nat.{_/_};
 ghost use Rattle.row.specs.Window.{stepBlocks};
+ghost use Rattle.row.specs.Envelope.{rowLength};
+ghost use Rattle.classes.specs.Classify.{blocksOf};
 ghost use Rattle.cancel.specs.Questions.{firstNo, recordingQuestions, countOk, carrierOk, placesOk, workOk, sizeOk, positionOk, elementOk, elementsOk, fitOk, fitsOk, estimateOk};
 
 // 1 to 3, which every call asks first: the number of the first no, 0 where there is none. Questions 1 and 3 are
@@ -29,7 +32,7 @@ pub fn recording_no(iq: &[f32], fs: f64) -> u64
 }
 
 // 2: the f32 count is even and at most 2,097,152.
-fn count_ok(n: usize) -> bool
+pub fn count_ok(n: usize) -> bool
     ensures { λ r. ⌜ r ≡ countOk n ⌝ }
 {
     if n % 2 == 0 { n <= 2097152 } else { false }
@@ -58,6 +61,32 @@ pub fn given_places_ok(count: usize, places: usize) -> bool
     ensures { λ r. ⌜ r ≡ placesOk count places ⌝ }
 {
     count <= places
+}
+
+// 5, of a list for the amplitude row: it has at least B - 7 places, none where B is at most 7.
+pub fn row_places_ok(iq: &[f32], fs: f64, places: usize) -> bool
+    ensures { λ r. ⌜ r ≡ placesOk (rowLength (now (iq .entry)) fs) places ⌝ }
+{
+    let b = step_blocks(iq, fs);
+    if b <= 7 {
+        return true;
+    }
+    b - 7 <= places
+}
+
+// How many whole blocks of `window` samples so many f32 have. The window is 8 steps; the product is small only where
+// question 1 takes the rate, so that the code divides twice.
+pub fn window_blocks(iq_len: usize, fs: f64) -> usize
+    ensures { λ r. ⌜ r ≡ blocksOf fs («iq_len» / 2) ⌝ }
+{
+    iq_len / 2 / edge_step(fs) / 8
+}
+
+// 5, of a list for classes: it has at least a place for each of these blocks.
+pub fn class_places_ok(iq_len: usize, fs: f64, places: usize) -> bool
+    ensures { λ r. ⌜ r ≡ placesOk (blocksOf fs («iq_len» / 2)) places ⌝ }
+{
+    window_blocks(iq_len, fs) <= places
 }
 
 // 6: the work slice has at least 4 × B numbers.

@@ -1,0 +1,19 @@
+-- `cancel::blocks::classes_no` meets its contract. Assumes nothing.
+use borrow.Author.Needs.{needs}
+use Rattle.cancel.proofs.FirstNo.{ways}
+use Rattle.cancel.proofs.blocks.classes_no.Statement.{statement}
+use Rattle.cancel.proofs.blocks.classes_no.Tie as tie
+
+pub classes-no-spec : {M : Type 1} → statement M
+classes-no-spec =
+    tie.close
+    (tie.spec
+    (λ c κs. search needs)
+    (λ c. search ways depth 8)
+    (λ c κs. search needs)
+    (λ c. search ways depth 8)
+    (λ c κs. search needs)
+    (λ c. search ways depth 8)
+    (λ c κs. search needs)
+    (λ c. search ways depth 8)
+    (λ c. search ways depth 8))
