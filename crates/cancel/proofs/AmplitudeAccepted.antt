@@ -53,3 +53,8 @@ module _ (iq : List Float) (fs hz : Float) (row work : List Float) where
   row-done r e =
       let told = accepted-by _ _ _ r e in
       (ap (λ (r : RowResult). r .row) (told .1), ap (λ (r : RowResult). r .amplitudes) (told .1))
+
+  -- how many amplitudes it counts
+  pub row-counted : (r : RowResult) → accepted r ≡ rowRule iq fs hz row work → r .row .amplitudes ≡ rowLength iq fs
+  unfolding amplitudeRowOf
+  row-counted r e = ap (λ (a : AmplitudeRow). a .amplitudes) (row-done r e .0)

@@ -23,12 +23,13 @@ use Rattle.classes.specs.Class.{codesOf}
 use Rattle.classes.specs.Classify.{countsOf, countsIn}
 use Rattle.classes.proofs.Classes.{codes-length}
 use Rattle.classes.proofs.Counts.{counts-hold}
-use Rattle.cancel.specs.Answers.{refused}
+use Rattle.cancel.specs.declared.blocks.BlockClasses.{BlockClasses}
+use Rattle.cancel.specs.Answers.{accepted, refused}
 use Rattle.cancel.specs.Questions.{firstNo, countOk}
 use Rattle.cancel.specs.Blocks.{blocksIn, classesQuestions, classesGiven, blockClassesOf, ClassesResult, classesRule}
 use Rattle.cancel.proofs.FirstNo.{yes-at}
 use Rattle.cancel.proofs.Given.{estimate-sized}
-use Rattle.cancel.proofs.Accepted.{refused-by}
+use Rattle.cancel.proofs.Accepted.{refused-by, accepted-by}
 
 pub record ClassesAccepted (iq-len : ℕ) (fs : Float) (elements : List Float) (element-count : ℕ) (fits : List Float) (fit-count places : ℕ) : Type 0 where
   pub rate-ok : Rate fs
@@ -83,9 +84,22 @@ classes-made iq-len fs elements element-count fits fit-count blocks r l ys all p
     let class = classesGiven iq-len fs elements element-count fits fit-count in
     rw (classes-handed class (blocksIn iq-len fs) blocks l ys all painted size, classes-counted class (blocksIn iq-len fs) blocks l ys all painted r counted, all)
 
--- ---- what its promise says of a refusal
+-- ---- what its promise says of a refusal, and of an accepted call
 
 module _ (iq-len : ℕ) (fs hz step : Float) (elements : List Float) (element-count : ℕ) (fits : List Float) (fit-count : ℕ) (classes : List Float) where
   pub classes-refused : (n : ℕ) (lent : List (List Float)) → refused n lent ≡ classesRule iq-len fs hz step elements element-count fits fit-count classes → n ≡ 0 → ⊥
   unfolding classesRule
   classes-refused n lent e = refused-by _ _ _ n lent e
+
+  pub classes-done : (r : ClassesResult) → accepted r ≡ classesRule iq-len fs hz step elements element-count fits fit-count classes
+      → (r .blocks ≡ blockClassesOf iq-len fs elements element-count fits fit-count)
+      × (r .classes ≡ handed 1 (codesOf (classesGiven iq-len fs elements element-count fits fit-count) (blocksIn iq-len fs)) classes)
+  unfolding classesRule
+  classes-done r e =
+      let told = accepted-by _ _ _ r e in
+      (ap (λ (r : ClassesResult). r .blocks) (told .1), ap (λ (r : ClassesResult). r .classes) (told .1))
+
+  -- how many blocks it counts
+  pub blocks-told : (r : ClassesResult) → accepted r ≡ classesRule iq-len fs hz step elements element-count fits fit-count classes → r .blocks .blocks ≡ blocksIn iq-len fs
+  unfolding blockClassesOf
+  blocks-told r e = ap (λ (b : BlockClasses). b .blocks) (classes-done r e .0)

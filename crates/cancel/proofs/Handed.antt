@@ -1,25 +1,29 @@
 -- What an accepted call hands out. The premises `promise` and `singles` of each theorem are what the call ensures
 -- where it answers `Done` and leaves `left`, `fits-left` and `scratch` in the slices it was lent; `singles` says that
 -- every number of the recording is an f32. Assumes nothing.
-use Prim.Native.Nat.{ℕ, _+_, _-_}
+use Prim.Native.Nat.{ℕ, _+_, _-_, _<_}
 use native.Mathlib.Omega.{arith}
-use mathlib.Core.Path.{_≡_, ap, _∙_}
+use mathlib.Core.Path.{_≡_, sym, ap, _∙_}
 use mathlib.Core.Bool.{not}
 use mathlib.Core.List.{List, [], map, List·Memᴰ}
-use lib.ListN.{length}
-use lib.Ieee.{Float}
+use lib.ListN.{length, getD}
+use lib.Seq.{getD-take}
+use lib.Ieee.{Float, nan}
 use Rattle.float.specs.Ops.{_⊘_}
+use Rattle.lists.specs.Firsts.{firsts}
 use Rattle.lists.specs.Those.{those}
-use Rattle.lists.proofs.Firsts.{length-firsts}
+use Rattle.lists.proofs.Firsts.{length-firsts, getD-firsts}
 use Rattle.row.specs.Samples.{Singles}
 use Rattle.row.specs.Window.{stepOf}
 use Rattle.row.specs.Envelope.{rowOf, rowLength}
+use Rattle.elements.specs.declared.amplitude.AmplitudeRow.{AmplitudeRow}
 use Rattle.elements.specs.declared.keying.Found.{Found}
 use Rattle.elements.specs.Element.{elementAt, elementsIn}
 use Rattle.elements.specs.Keying.{LongKeyDowns, RowCounts, noKeyDowns}
 use Rattle.elements.specs.declared.threshold.Threshold.the-variants.{At, Absent}
-use Rattle.elements.specs.Find.{thresholdOf, foundOf}
+use Rattle.elements.specs.Find.{thresholdOf, amplitudeRowOf, foundAt, elementsAt, foundOf, elementsFound}
 use Rattle.elements.proofs.Records.{elements-read}
+use Rattle.elements.proofs.Amplitudes.{numbers-read, found-by-row, elements-by-row}
 use Rattle.elements.proofs.Exactly.{handed-exactly, handed-nothing, counted-exactly, counted-nothing}
 use Rattle.fits.specs.declared.fit.ElementFit.{ElementFit}
 use Rattle.fits.specs.declared.fit.Fit.the-variants.{Fitted}
@@ -30,12 +34,15 @@ use Rattle.fits.specs.Estimate.{refined, strongEstimate}
 use Rattle.fits.proofs.Records.{fits-read}
 use Rattle.fits.proofs.Fitted.{fits-are, fit-is, fitted-or-skipped}
 use Rattle.fits.proofs.Strong.{handed-strong, handed-strong-nothing, handed-strong-fits, strong-fit-is, strong-counted}
+use Rattle.cancel.specs.declared.amplitude.RowAnswer.the-variants as amplitude
 use Rattle.cancel.specs.declared.find.FindAnswer.the-variants as find
 use Rattle.cancel.specs.declared.fit.FitAnswer.the-variants as fit
 use Rattle.cancel.specs.declared.estimate.EstimateAnswer.the-variants as estimate
+use Rattle.cancel.specs.Amplitude.{rowOutcome, rowRule}
 use Rattle.cancel.specs.Find.{findOutcome, findRule}
 use Rattle.cancel.specs.Fit.{fitOutcome, fitRule}
 use Rattle.cancel.specs.Estimate.{estimateOutcome, estimateRule}
+use Rattle.cancel.proofs.AmplitudeAccepted.{row-done}
 use Rattle.cancel.proofs.FindAccepted.{find-accepted, find-done}
 use Rattle.cancel.proofs.FitAccepted.{fit-done}
 use Rattle.cancel.proofs.EstimateAccepted.{estimate-accepted, estimate-done}
@@ -64,6 +71,31 @@ module _ (iq : List Float) (fs hz : Float) (elements work : List Float) (f : Fou
   find-nothing t =
       let told = find-done iq fs hz elements work _ promise in
       (handed-nothing iq fs hz left elements (f .listed) (told .2) t, told .1 ∙ counted-nothing iq fs hz t)
+
+-- ---- amplitude_row
+
+module _ (iq : List Float) (fs hz : Float) (row work : List Float) (r : AmplitudeRow) (left scratch : List Float)
+    (promise : rowOutcome (amplitude.Done r) left scratch ≡ rowRule iq fs hz row work) where
+  -- The numbers handed out are the amplitudes, and the threshold is the recording's.
+  pub row-told : r ≡ amplitudeRowOf iq fs hz
+  row-told = row-done iq fs hz row work _ promise .0
+
+  pub row-at : (i : ℕ) → i < rowLength iq fs → getD left i nan ≡ rowOf iq fs hz i
+  unfolding amplitudeRowOf
+  row-at i h =
+      let first = numbers-read left row (r .amplitudes) (firsts (rowOf iq fs hz) (rowLength iq fs)) (row-done iq fs hz row work _ promise .1) in
+      let inside : i < r .amplitudes = rw row-told h in
+      sym (getD-take (r .amplitudes) left i nan inside) ∙ ap (λ (l : List Float). getD l i nan) first ∙ getD-firsts (rowOf iq fs hz) (rowLength iq fs) i nan h
+
+  -- What find_elements counts and lists at the same carrier are the key-downs of the numbers handed out, at the
+  -- threshold answered.
+  pub row-found : foundAt (λ i. getD left i nan) (r .amplitudes - 1) (stepOf fs) fs (r .threshold) ≡ foundOf iq fs hz
+  unfolding amplitudeRowOf
+  row-found = rw row-told (found-by-row iq fs hz (λ i. getD left i nan) row-at)
+
+  pub row-elements : elementsAt (λ i. getD left i nan) (r .amplitudes - 1) (stepOf fs) fs (r .threshold) ≡ elementsFound iq fs hz
+  unfolding amplitudeRowOf
+  row-elements = rw row-told (elements-by-row iq fs hz (λ i. getD left i nan) row-at)
 
 -- ---- fit_elements
 

@@ -7,10 +7,12 @@
 -- Accepted    what yes to questions 2, 3, 5 and 6 shows: `recording-is`, `element-places`, `fit-places`, `work-room`;
 --             the two ways out of a call, and what they show: `refuses`, `accepts`, `refused-by`, `refused-first`,
 --             `accepted-by`
--- FindAccepted, FitAccepted, EstimateAccepted, ResidualAccepted, EvidenceAccepted, SubtractAccepted, RunAccepted
+-- AmplitudeAccepted, FindAccepted, FitAccepted, EstimateAccepted, BlocksAccepted, ResidualAccepted, EvidenceAccepted,
+-- SubtractAccepted, RunAccepted
 --             of each call: what it goes on with, `find-accepted`; its result by its parts, `find-result`; what its
 --             promise says: `find-refused`, `find-done`; `estimate-counts`; `run-number`, `run-accepts`
--- Handed      theorems on what an accepted call hands out, in 01's terms: `find-exactly`, `find-counted`,
+-- Handed      theorems on what an accepted call hands out, in 01's terms: `row-told`, `row-at`, `row-found`,
+--             `row-elements`; `find-exactly`, `find-counted`,
 --             `find-nothing`; `fit-elements-are`, `fit-each`, `fit-skipped`; `estimate-exactly`, `estimate-counted`,
 --             `estimate-nothing`,
 --             `estimate-elements-are`, `estimate-each`, `estimate-skipped`

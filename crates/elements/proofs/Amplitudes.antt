@@ -1,6 +1,6 @@
 -- A list whose places are one number each, and the amplitude row that one hands out: the ways out of `amplitude_row`.
 -- Assumes nothing.
-use Prim.Native.Nat.{ℕ, _*_, _/_, _≤_, _<_}
+use Prim.Native.Nat.{ℕ, _-_, _*_, _/_, _≤_, _<_}
 use native.Mathlib.Omega.{arith}
 use mathlib.Core.Path.{_≡_, refl, ap, _∙_}
 use mathlib.Core.List.{List, []}
@@ -16,9 +16,11 @@ use Rattle.row.proofs.Rows.{row-none}
 use Rattle.rank.specs.Select.{percentileOf}
 use Rattle.elements.specs.declared.amplitude.AmplitudeRow.{AmplitudeRow}
 use Rattle.elements.specs.declared.threshold.Threshold.{Threshold}
-use Rattle.elements.specs.declared.threshold.Threshold.the-variants.{Absent}
+use Rattle.elements.specs.declared.threshold.Threshold.the-variants.{At, Absent}
 use Rattle.elements.specs.Element.{handed, handedNumbers}
-use Rattle.elements.specs.Find.{rowThreshold, thresholdOf, amplitudeRowOf}
+use Rattle.elements.specs.Find.{rowThreshold, thresholdOf, amplitudeRowOf, foundAt, elementsAt, foundOf, elementsFound}
+use Rattle.elements.proofs.Same.{found-same, elements-same}
+use Rattle.elements.proofs.Bounds.{some-row}
 
 -- ---- numbers handed out
 
@@ -63,3 +65,26 @@ module _ (iq : List Float) (fs carrier : Float) where
   row-made l out v count t is all room copied told =
       let size : count ≡ rowLength iq fs = all ∙ ap length is ∙ length-firsts (rowOf iq fs carrier) (rowLength iq fs) in
       (rw (size, told, is), rw (all, copied, ← is) (copied-handed l v room))
+
+-- ---- the key-downs of numbers that are the row, at the recording's threshold, are those of the recording
+module _ (iq : List Float) (fs carrier : Float) (row : ℕ → Float) (same : (i : ℕ) → i < rowLength iq fs → row i ≡ rowOf iq fs carrier i) where
+  agree : (thr : Float) → thresholdOf iq fs carrier ≡ At thr → (i : ℕ) → i ≤ rowLength iq fs - 1 → row i ≡ rowOf iq fs carrier i
+  agree thr t i h = let some = some-row iq fs carrier thr t in same i (omega arith)
+
+  pub found-by-row : foundAt row (rowLength iq fs - 1) (stepOf fs) fs (thresholdOf iq fs carrier) ≡ foundOf iq fs carrier
+  unfolding foundOf
+  found-by-row = go (thresholdOf iq fs carrier) refl
+    where
+      go : (t : Threshold) → thresholdOf iq fs carrier ≡ t
+          → foundAt row (rowLength iq fs - 1) (stepOf fs) fs t ≡ foundAt (rowOf iq fs carrier) (rowLength iq fs - 1) (stepOf fs) fs t
+      go (At thr) t = found-same row (rowOf iq fs carrier) thr (rowLength iq fs - 1) (agree thr t) (stepOf fs) fs
+      go Absent t = refl
+
+  pub elements-by-row : elementsAt row (rowLength iq fs - 1) (stepOf fs) fs (thresholdOf iq fs carrier) ≡ elementsFound iq fs carrier
+  unfolding elementsFound
+  elements-by-row = go (thresholdOf iq fs carrier) refl
+    where
+      go : (t : Threshold) → thresholdOf iq fs carrier ≡ t
+          → elementsAt row (rowLength iq fs - 1) (stepOf fs) fs t ≡ elementsAt (rowOf iq fs carrier) (rowLength iq fs - 1) (stepOf fs) fs t
+      go (At thr) t = elements-same row (rowOf iq fs carrier) thr (rowLength iq fs - 1) (agree thr t) (stepOf fs) fs
+      go Absent t = refl

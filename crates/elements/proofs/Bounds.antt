@@ -100,6 +100,21 @@ elements-bounded row thr step fs j s h each t e m =
 
 -- ---- those of a recording, at any carrier
 
+-- a row that has a threshold is not empty
+pub some-row : (iq : List Float) (fs carrier thr : Float) → thresholdOf iq fs carrier ≡ At thr → 0 < rowLength iq fs
+unfolding thresholdOf
+some-row iq fs carrier thr e = go (eq-zero-or-pos (rowLength iq fs))
+  where
+    row : List Float
+    row = firsts (rowOf iq fs carrier) (rowLength iq fs)
+
+    go : (rowLength iq fs ≡ 0) ⊎ (0 < rowLength iq fs) → 0 < rowLength iq fs
+    go (inl z) =
+        let none : Nothing ≡ percentileOf row EDGE_PERCENTILE = percentile-none row EDGE_PERCENTILE (length-firsts (rowOf iq fs carrier) (rowLength iq fs) ∙ z) in
+        let gone : halfOf Nothing ≡ At thr = ap halfOf none ∙ e in
+        let no : _≡_ {A = ℕ} 0 1 = cc in absurd (omega arith)
+    go (inr p) = p
+
 module _ (iq : List Float) (fs carrier : Float) (s : Singles iq) (q : Iq iq) where
   listed-amount : (i : ℕ) → i < length (firsts (rowOf iq fs carrier) (rowLength iq fs)) → Amount (getD (firsts (rowOf iq fs carrier) (rowLength iq fs)) i nan)
   listed-amount i h =
@@ -121,23 +136,8 @@ module _ (iq : List Float) (fs carrier : Float) (s : Singles iq) (q : Iq iq) whe
       let row = firsts (rowOf iq fs carrier) (rowLength iq fs) in
       half-amount (percentileOf row EDGE_PERCENTILE) thr (λ v p. percentile-keeps Amount row EDGE_PERCENTILE v listed-amount p) e
 
-  -- a row that has one is not empty
-  some-row : (thr : Float) → thresholdOf iq fs carrier ≡ At thr → 0 < rowLength iq fs
-  unfolding thresholdOf
-  some-row thr e = go (eq-zero-or-pos (rowLength iq fs))
-    where
-      row : List Float
-      row = firsts (rowOf iq fs carrier) (rowLength iq fs)
-
-      go : (rowLength iq fs ≡ 0) ⊎ (0 < rowLength iq fs) → 0 < rowLength iq fs
-      go (inl z) =
-          let none : Nothing ≡ percentileOf row EDGE_PERCENTILE = percentile-none row EDGE_PERCENTILE (length-firsts (rowOf iq fs carrier) (rowLength iq fs) ∙ z) in
-          let gone : halfOf Nothing ≡ At thr = ap halfOf none ∙ e in
-          let no : _≡_ {A = ℕ} 0 1 = cc in absurd (omega arith)
-      go (inr p) = p
-
   last-amount : (thr : Float) → thresholdOf iq fs carrier ≡ At thr → (i : ℕ) → i ≤ rowLength iq fs - 1 → Amount (rowOf iq fs carrier i)
-  last-amount thr t i h = let some : 0 < rowLength iq fs = some-row thr t in row-amount iq fs carrier i s q (omega arith)
+  last-amount thr t i h = let some : 0 < rowLength iq fs = some-row iq fs carrier thr t in row-amount iq fs carrier i s q (omega arith)
 
   -- A pair of positions is a key-down of the recording exactly if it is an upward crossing and the next downward one:
   -- the row has no NaN.

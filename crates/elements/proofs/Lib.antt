@@ -7,14 +7,16 @@
 -- Walk        a turn of the loop over a row: what is pending, counted and stored; how small the counts are
 -- KeyDowns    which pairs `keyDowns` has: `key-down-is`; their order: `in-order`; `listed-is`, `places`
 -- Same        rows that agree have the same key-downs, counts and elements
--- Bounds      the numbers of every element found are finite: `found-bounded`; `threshold-amount`, `recorded-is`
+-- Bounds      the numbers of every element found are finite: `found-bounded`; `threshold-amount`, `recorded-is`,
+--             `some-row`
 -- Recording   counts of a recording: `key-downs-counted`, `listed-counted`, `all-counted`; `enough-places`
 -- Exactly     what is found and handed out: the long key-downs, each once, in order, and nothing else: `found-exactly`,
 --             `handed-exactly`; counted are all key-downs of the row: `counted-exactly`; without a threshold nothing:
 --             `found-nothing`, `handed-nothing`, `counted-nothing`
 -- Ways        the ways out of `find_elements`
 -- Amplitudes  numbers at the first places of a list: `numbers-handed`, `numbers-read`, `copied-handed`; the ways out of
---             `amplitude_row`: `row-short`, `row-made`
+--             `amplitude_row`: `row-short`, `row-made`; key-downs by the numbers handed out: `found-by-row`,
+--             `elements-by-row`
 -- Edges       at fs 3,000: `step-3000`, `window-3000`
 pub mod Records
 pub mod Reached
