@@ -10,27 +10,31 @@
  *
  * Slices. A slice is a pointer and its length in numbers, not bytes and not records. Pointers are aligned and never
  * null, not even where the length is 0, and slices that are lent to one call do not overlap. Nothing is allocated: the
- * caller lends the lists to be filled and the work slice, as long as CANCEL_ELEMENTS_LEN, CANCEL_FITS_LEN and
- * CANCEL_WORK_LEN say of B, or longer.
+ * caller lends the lists to be filled and the work slice, as long as CANCEL_ELEMENTS_LEN, CANCEL_FITS_LEN,
+ * CANCEL_ROW_LEN, CANCEL_CLASSES_LEN and CANCEL_WORK_LEN say of B, or longer.
  *
  * Records. An element is 4 numbers of its list and a fit 8, in the order of struct cancel_element and struct
  * cancel_fit. A place of a list is one record; numbers after the last whole place are no place and are never written.
+ * An amplitude row and a list of classes have one number a place.
  *
  * Answers. The calls below return 0 or the number of a refusal: the first of these questions that the call asks and
  * that has the answer no.
  *
  *   1  fs is a number from 2000 to 192000, ends included
- *   2  the float count is even and at most 2097152
+ *   2  the float count is even and at most 2097152; cancel_block_classes is told it as iq_len and lent no recording
  *   3  every sample is finite
  *   4  the hint or carrier is finite, of size at most fs / 2
- *   5  each list to be filled has places enough: B / 2 rounded down; in cancel_fit_elements one for each given element
+ *   5  each list to be filled has places enough: B / 2 rounded down; in cancel_fit_elements one for each given element;
+ *      in cancel_amplitude_row B - 7, none where B is below 7; in cancel_block_classes one for each block of window
+ *      samples, n / window rounded down
  *   6  work has at least 4 * B numbers
  *   7  given counts fit their lists; every given number is finite, of size at most 2^200; each up and down is a whole
  *      number from 0, below 2^20. Only the first `count` records of a given list are read.
  *
- *   cancel_find_elements                                    asks 1 2 3 4 5 6
+ *   cancel_amplitude_row, cancel_find_elements              asks 1 2 3 4 5 6
  *   cancel_fit_elements                                     asks 1 2 3 4 5 6 7
  *   cancel_estimate_strong, cancel_run                      asks 1 2 3 4 5 6
+ *   cancel_block_classes                                    asks 1 2 5 7
  *   cancel_residual_check, cancel_second_carrier_evidence   asks 1 2 3 6 7
  *   cancel_subtract                                         asks 1 2 3 7
  *   cancel_classify                                         asks nothing and returns 0
@@ -43,8 +47,8 @@
  *
  * Calls are re-entrant: they keep nothing between them, so several threads may make them at once, if nothing that one
  * of them writes is lent to another. A call takes less than 32 KiB of stack, however long the recording: there is no
- * recursion, and the deepest call, cancel_run, was measured at 17.5 KB. They expect the floating-point environment that a program starts with (to nearest, subnormals kept) and
- * leave it so.
+ * recursion, and the deepest call, cancel_run, was measured at 17.5 KB. They expect the floating-point environment that
+ * a program starts with (to nearest, subnormals kept) and leave it so.
  */
 #ifndef CANCEL_H
 #define CANCEL_H
@@ -58,14 +62,16 @@ extern "C" {
 
 /* The interface's version. MAJOR grows when something that is here changes, MINOR when something is added. */
 #define CANCEL_VERSION_MAJOR 1
-#define CANCEL_VERSION_MINOR 0
+#define CANCEL_VERSION_MINOR 1
 
 /* Numbers in a record, and in the figures of each call. */
 #define CANCEL_ELEMENT_NUMBERS 4
 #define CANCEL_FIT_NUMBERS 8
+#define CANCEL_ROW_FIGURES 3
 #define CANCEL_FIND_FIGURES 4
 #define CANCEL_FIT_FIGURES 1
 #define CANCEL_ESTIMATE_FIGURES 7
+#define CANCEL_CLASSES_FIGURES 5
 #define CANCEL_RESIDUAL_FIGURES 5
 #define CANCEL_EVIDENCE_FIGURES 5
 #define CANCEL_CLASSIFY_FIGURES 2
@@ -74,6 +80,8 @@ extern "C" {
 /* The numbers that the lists to be filled and the work slice need where B blocks are counted. Each can be 0. */
 #define CANCEL_ELEMENTS_LEN(blocks) ((blocks) / 2 * CANCEL_ELEMENT_NUMBERS)
 #define CANCEL_FITS_LEN(blocks) ((blocks) / 2 * CANCEL_FIT_NUMBERS)
+#define CANCEL_ROW_LEN(blocks) ((blocks) > 7 ? (blocks) - 7 : 0)
+#define CANCEL_CLASSES_LEN(blocks) ((blocks) / 8)
 #define CANCEL_WORK_LEN(blocks) ((blocks) * 4)
 
 /* An element: its times in samples, which lie between samples, and its positions in the amplitude row. */
@@ -113,10 +121,36 @@ enum cancel_hypothesis {
     CANCEL_UNRESOLVED = 3
 };
 
+/* The class of a block as a list of classes has it. */
+enum cancel_class {
+    CANCEL_EDGE = 0,
+    CANCEL_INTERIOR = 1,
+    CANCEL_GAP = 2,
+    CANCEL_OTHER = 3
+};
+
 /*
  * The number of whole steps, B, in a recording of iq_len floats; 0 where question 1 refuses fs. Nothing else is asked.
  */
 size_t cancel_blocks(size_t iq_len, double fs);
+
+/*
+ * The figures of cancel_amplitude_row. PRESENT is 0 or 1, and THRESHOLD is 0 where PRESENT is: then the row is empty, or
+ * half its 98th percentile is not positive, and there are no key-downs.
+ */
+enum cancel_row_figure {
+    CANCEL_ROW_AMPLITUDES,
+    CANCEL_ROW_PRESENT,
+    CANCEL_ROW_THRESHOLD
+};
+
+/*
+ * The amplitude row of the carrier at carrier_hz, and the threshold at which cancel_find_elements finds its key-downs
+ * there. row receives the B - 7 amplitudes, none where B is below 7. Amplitude i is of the window samples from
+ * i * step on; an element's up and down are positions in this row.
+ */
+uint64_t cancel_amplitude_row(const float *iq, size_t iq_len, double fs, double carrier_hz,
+                              double *row, size_t row_len, double *work, size_t work_len, double *figures);
 
 /* The figures of cancel_find_elements. Airtime is in samples, over the listed elements. */
 enum cancel_find_figure {
@@ -164,6 +198,26 @@ enum cancel_estimate_figure {
 uint64_t cancel_estimate_strong(const float *iq, size_t iq_len, double fs, double hint_hz,
                                 double *elements, size_t elements_len, double *fits, size_t fits_len,
                                 double *work, size_t work_len, double *figures);
+
+/* The figures of cancel_block_classes: the blocks of window samples, and how many are of each class. */
+enum cancel_classes_figure {
+    CANCEL_CLASSES_BLOCKS,
+    CANCEL_CLASSES_EDGE,
+    CANCEL_CLASSES_INTERIOR,
+    CANCEL_CLASSES_GAP,
+    CANCEL_CLASSES_OTHER
+};
+
+/*
+ * What each block of window samples is to a given estimate's sender, in a recording of iq_len floats: classes receives
+ * an enum cancel_class for each block. No recording is lent: a class follows from the length, the rate and the times of
+ * the estimate's elements and fits. The estimate is its carrier, its carrier step, and the first element_count elements
+ * and fit_count fits of two lists.
+ */
+uint64_t cancel_block_classes(size_t iq_len, double fs, double carrier_hz, double carrier_step_hz,
+                              const double *elements, size_t elements_len, size_t element_count,
+                              const double *fits, size_t fits_len, size_t fit_count,
+                              double *classes, size_t classes_len, double *figures);
 
 /* The figures of cancel_residual_check. A ratio is +infinity where one of its sides is missing. */
 enum cancel_residual_figure {

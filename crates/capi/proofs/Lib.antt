@@ -1,7 +1,8 @@
 -- Laws that the proofs of `capi` share, by subject.
 
 -- Ways        the two ways out of a call: `refused-call`, `done-call`, without figures `refused-way`; the result of an
---             accepted call, for C: `find-told`, `fit-told`, `estimate-told`, `measure-told`
+--             accepted call, for C: `find-told`, `fit-told`, `estimate-told`, `measure-told`,
+--             `numbers-told`
 -- RunTold     the same of a run: `run-told`
 -- RunForC     a run that returns 0 to C is an accepted run: `run-for-c`
 -- Units       the loop of cancel_cos_sin: `unit-is`, ruleset `stores`

@@ -5,7 +5,7 @@ use mathlib.Core.List.{List, _∷_}
 use lib.Ieee.{Float}
 use Rattle.elements.specs.declared.element.KeyedElement.{KeyedElement}
 use Rattle.elements.specs.declared.keying.Found.{Found}
-use Rattle.elements.specs.Element.{Handed, handedElements}
+use Rattle.elements.specs.Element.{Handed, handedElements, handedNumbers}
 use Rattle.fits.specs.declared.fit.ElementFit.{ElementFit}
 use Rattle.fits.specs.declared.estimate.Estimate.{Estimate}
 use Rattle.fits.specs.List.{handedFits}
@@ -51,3 +51,9 @@ module _ (work : ℕ) (figures : List Float) where
   pub measure-told : (given : List Float) → figures ≡ given
       → _≡_ {A = Called (Unit {0})} (record { figures = figures; lists = tt; work = work }) (record { figures = given; lists = tt; work = work })
   measure-told given q = rw q
+
+  -- a call that hands out numbers
+  pub numbers-told : (given : List Float) (m n : ℕ) (left : List Float) → m ≡ n → figures ≡ given
+      → _≡_ {A = Called (Handed Float)} (record { figures = figures; lists = handedNumbers left n; work = work })
+      (record { figures = given; lists = handedNumbers left m; work = work })
+  numbers-told given m n left e q = rw (q, e)

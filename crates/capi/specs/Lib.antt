@@ -5,4 +5,5 @@ pub mod Functions
 pub mod Hypothesis
 pub mod Measures
 pub mod Removal
+pub mod Rows
 pub mod Running

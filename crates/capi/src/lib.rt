@@ -5,4 +5,5 @@ pub mod functions;
 pub mod hypothesis;
 pub mod measures;
 pub mod removal;
+pub mod rows;
 pub mod running;

@@ -1,0 +1,62 @@
+-- What the amplitude row and the classes of the blocks are to C: what the two calls return and leave in what they were
+-- lent (include/cancel.h). Definitions only.
+use Prim.Native.Nat.{ℕ}
+use mathlib.Core.List.{List, [], _∷_}
+use lib.ListN.{length}
+use lib.Ieee.{Float}
+use Rattle.float.specs.Ops.{of}
+use Rattle.elements.specs.declared.amplitude.AmplitudeRow.{AmplitudeRow}
+use Rattle.elements.specs.declared.threshold.Threshold.{Threshold}
+use Rattle.elements.specs.declared.threshold.Threshold.the-variants.{At, Absent}
+use Rattle.elements.specs.Element.{Handed, handedNumbers}
+use Rattle.cancel.specs.declared.blocks.BlockClasses.{BlockClasses}
+use Rattle.cancel.specs.Answers.{Outcome, byNumber}
+use Rattle.cancel.specs.Amplitude.{RowResult, rowRule}
+use Rattle.cancel.specs.Blocks.{ClassesResult, classesRule}
+use Rattle.capi.specs.Calls.{Called, forC}
+
+-- ---- cancel_amplitude_row
+
+-- a threshold as two figures: whether it is present, 0 or 1, and its value, 0 where it is absent
+abbrev pub thresholdPresent : Threshold → Float
+thresholdPresent (At thr) = of 1
+thresholdPresent Absent = of 0
+
+abbrev pub thresholdValue : Threshold → Float
+thresholdValue (At thr) = thr
+thresholdValue Absent = of 0
+
+-- figures: amplitudes, threshold present, threshold
+abbrev pub rowFigures : AmplitudeRow → List Float
+rowFigures r = of (r .amplitudes) ∷ thresholdPresent (r .threshold) ∷ thresholdValue (r .threshold) ∷ []
+
+-- of the number that is returned, 0 for an accepted call, with what the lent slices then hold: `count` amplitudes, as
+-- many as the rule counts
+abbrev pub rowCalled : ℕ → ℕ → List Float → List Float → List Float → Outcome (Called (Handed Float))
+rowCalled n count row work figures =
+    byNumber n (record { figures = figures; lists = handedNumbers row count; work = length work }) (figures ∷ row ∷ work ∷ [])
+
+abbrev pub rowTold : RowResult → Called (Handed Float)
+rowTold r = record { figures = rowFigures (r .row); lists = r .amplitudes; work = r .work }
+
+unfoldable pub rowCall : List Float → Float → Float → List Float → List Float → List Float → Outcome (Called (Handed Float))
+rowCall iq fs hz row work figures = forC rowTold figures (rowRule iq fs hz row work)
+
+-- ---- cancel_block_classes
+
+-- figures: blocks, edge, interior, gap, other
+abbrev pub classesFigures : BlockClasses → List Float
+classesFigures b =
+    of (b .blocks) ∷ of (b .counts .edge) ∷ of (b .counts .interior) ∷ of (b .counts .gap) ∷ of (b .counts .other) ∷ []
+
+-- the same of `blocks` classes; no work slice is lent
+abbrev pub classesCalled : ℕ → ℕ → List Float → List Float → Outcome (Called (Handed Float))
+classesCalled n blocks classes figures =
+    byNumber n (record { figures = figures; lists = handedNumbers classes blocks; work = 0 }) (figures ∷ classes ∷ [])
+
+abbrev pub classesTold : ClassesResult → Called (Handed Float)
+classesTold r = record { figures = classesFigures (r .blocks); lists = r .classes; work = 0 }
+
+unfoldable pub classesCall : ℕ → Float → Float → Float → List Float → ℕ → List Float → ℕ → List Float → List Float → Outcome (Called (Handed Float))
+classesCall iq-len fs hz step elements element-count fits fit-count classes figures =
+    forC classesTold figures (classesRule iq-len fs hz step elements element-count fits fit-count classes)
