@@ -23,6 +23,9 @@ macro_rules! called {
     ($name:literal $h:ident (buf $($rest:ident)*) ($($k:ty),*) ($($v:expr),*)) => {
         called!($name $h ($($rest)*) ($($k,)* *mut f32, usize) ($($v,)* $h.recording.pointer(), $h.recording.len()))
     };
+    ($name:literal $h:ident (iq_len $($rest:ident)*) ($($k:ty),*) ($($v:expr),*)) => {
+        called!($name $h ($($rest)*) ($($k,)* usize) ($($v,)* $h.iq_len))
+    };
     ($name:literal $h:ident (fs $($rest:ident)*) ($($k:ty),*) ($($v:expr),*)) => {
         called!($name $h ($($rest)*) ($($k,)* f64) ($($v,)* $h.fs))
     };
@@ -37,6 +40,12 @@ macro_rules! called {
     };
     ($name:literal $h:ident (places $($rest:ident)*) ($($k:ty),*) ($($v:expr),*)) => {
         called!($name $h ($($rest)*) ($($k,)* *mut f64, usize) ($($v,)* $h.places.pointer(), $h.places.len()))
+    };
+    ($name:literal $h:ident (row $($rest:ident)*) ($($k:ty),*) ($($v:expr),*)) => {
+        called!($name $h ($($rest)*) ($($k,)* *mut f64, usize) ($($v,)* $h.row.pointer(), $h.row.len()))
+    };
+    ($name:literal $h:ident (classes $($rest:ident)*) ($($k:ty),*) ($($v:expr),*)) => {
+        called!($name $h ($($rest)*) ($($k,)* *mut f64, usize) ($($v,)* $h.classes.pointer(), $h.classes.len()))
     };
     ($name:literal $h:ident (work $($rest:ident)*) ($($k:ty),*) ($($v:expr),*)) => {
         called!($name $h ($($rest)*) ($($k,)* *mut f64, usize) ($($v,)* $h.work.pointer(), $h.work.len()))

@@ -1,6 +1,6 @@
 //! What the oracle answers to each call that the questions accept: figures, lists and buffer.
 
-use crate::by_stand_ins::way_in::fit_span;
+use crate::by_stand_ins::way_in::{class_counts, class_numbers, edge_window, fit_span};
 use crate::by_stand_ins::{self as rust, Hypothesis, ResidualCheck, SecondCarrierEvidence};
 use crate::by_stand_ins::{MAX_CARRIER_STEP_HZ, MIN_ELEMENTS};
 use crate::records::{self, Estimate};
@@ -13,6 +13,8 @@ pub struct Answer {
     pub figures: Vec<f64>,
     pub elements: Vec<f64>,
     pub fits: Vec<f64>,
+    pub row: Vec<f64>,
+    pub classes: Vec<f64>,
     /// The buffer, for calls that may write it.
     pub buffer: Option<Vec<f32>>,
     /// Floats of the buffer that the call visits; all others keep every bit.
@@ -29,6 +31,24 @@ fn kinds(all: &[(bool, &'static str)]) -> Vec<&'static str> {
 /// Key-downs, listed, short, airtime.
 fn counts(found: &keydowns::Found) -> [f64; 4] {
     [found.key_downs, found.elements.len(), found.short, found.airtime].map(|n| n as f64)
+}
+
+/// How many amplitudes, whether there is a threshold, the threshold; and the row.
+pub fn amplitude_row(s: &Scene) -> Answer {
+    let rec = &s.recording;
+    let row = keydowns::row(&records::samples(&rec.iq), rec.fs, rec.hint_hz);
+    let threshold = keydowns::threshold(&row);
+    Answer {
+        figures: vec![row.len() as f64, threshold.is_some() as u8 as f64, threshold.unwrap_or(0.0)],
+        kinds: kinds(&[
+            (threshold.is_some(), "with a threshold"),
+            (threshold.is_none() && !row.is_empty(), "with a row and no threshold"),
+            (row.is_empty(), "with no row"),
+            (!row.is_empty() && row.len() == s.row_len, "exactly full"),
+        ]),
+        row,
+        ..Answer::default()
+    }
 }
 
 pub fn find_elements(s: &Scene) -> Answer {
@@ -69,6 +89,26 @@ pub fn estimate_strong(s: &Scene) -> Answer {
         elements: records::flat_elements(&estimate.elements),
         fits: records::flat_fits(&estimate.fits),
         kinds: kinds(&[(!estimate.fits.is_empty(), "with fits"), (estimate.carrier_step_hz != 0.0, "with a step")]),
+        ..Answer::default()
+    }
+}
+
+/// Blocks, and how many are of each class; and the class of each.
+pub fn block_classes(s: &Scene) -> Answer {
+    let (fs, n, estimate) = (s.recording.fs, s.iq_len() / 2, s.given.estimate().strong());
+    let (window, _) = edge_window(fs);
+    let blocks = n / window;
+    let classes = class_numbers(blocks, window, fs, n, &estimate);
+    let [edge, interior, gap, other] = class_counts(blocks, window, fs, n, &estimate);
+    Answer {
+        figures: [blocks, edge, interior, gap, other].map(|n| n as f64).to_vec(),
+        kinds: kinds(&[
+            (edge > 0, "with edge blocks"),
+            (interior > 0, "with interior blocks"),
+            (gap > 0, "with gap blocks"),
+            (blocks > 0 && blocks == s.classes_len, "exactly full"),
+        ]),
+        classes,
         ..Answer::default()
     }
 }
@@ -211,5 +251,6 @@ pub fn run(s: &Scene) -> Answer {
         buffer: Some(records::floats(&samples)),
         spans: if run.taken { spans(estimate, fs, run.samples) } else { Vec::new() },
         kinds,
+        ..Answer::default()
     }
 }

@@ -20,6 +20,8 @@ macro_rules! each_call {
             "cancel_classify" classify(evidence figures) 2;
             "cancel_subtract" subtract(buf fs estimate) 0;
             "cancel_run" run(buf fs hint elements fits work figures) 28;
+            "cancel_amplitude_row" amplitude_row(iq fs hint row work figures) 3;
+            "cancel_block_classes" block_classes(iq_len fs estimate classes figures) 5;
         }
     };
 }
@@ -49,9 +51,13 @@ pub enum Slot {
     iq,
     /// The recording, to be written.
     buf,
+    /// How many floats a recording has that is not lent.
+    iq_len,
     fs,
-    /// The hint, or the carrier of a find or fit.
+    /// The hint, or the carrier of a row, find or fit.
     hint,
+    /// The list of amplitudes to be filled, one number a place.
+    row,
     /// The list of elements to be filled.
     elements,
     /// The list of fits to be filled.
@@ -62,6 +68,8 @@ pub enum Slot {
     places,
     /// A given estimate: carrier, carrier step, elements with their count, fits with their count.
     estimate,
+    /// The list of classes to be filled, one number a place.
+    classes,
     /// The figures of an evidence.
     evidence,
     work,
@@ -129,8 +137,11 @@ impl Call {
             asked.push(ask::rate(rec.fs));
         }
         if self.is_handed_any(&[Slot::iq, Slot::buf]) {
-            asked.push(ask::size(&rec.iq));
+            asked.push(ask::size(rec.iq.len()));
             asked.push(ask::finite(&rec.iq));
+        }
+        if self.is_handed(Slot::iq_len) {
+            asked.push(ask::size(s.iq_len()));
         }
         if self.is_handed(Slot::hint) {
             asked.push(ask::hint(rec.hint_hz, rec.fs));
@@ -142,6 +153,12 @@ impl Call {
         }
         if self.is_handed(Slot::places) {
             asked.push(ask::room_for_each(s.places_len / FIT, s.given.element_count));
+        }
+        if self.is_handed(Slot::row) {
+            asked.push(ask::room_for_row(s.row_len, &rec.iq, rec.fs));
+        }
+        if self.is_handed(Slot::classes) {
+            asked.push(ask::room_for_classes(s.classes_len, s.iq_len(), rec.fs));
         }
         if self.is_handed(Slot::work) {
             asked.push(ask::work(s.work_len, &rec.iq, rec.fs));
@@ -174,8 +191,11 @@ impl Slot {
         match self {
             Slot::iq => &["const float *", "size_t"],
             Slot::buf => &["float *", "size_t"],
+            Slot::iq_len => &["size_t"],
             Slot::fs | Slot::hint => &["double"],
-            Slot::elements | Slot::fits | Slot::places | Slot::work => &["double *", "size_t"],
+            Slot::elements | Slot::fits | Slot::places | Slot::row | Slot::classes | Slot::work => {
+                &["double *", "size_t"]
+            }
             Slot::given => &["const double *", "size_t", "size_t"],
             Slot::estimate => {
                 &["double", "double", "const double *", "size_t", "size_t", "const double *", "size_t", "size_t"]

@@ -11,11 +11,14 @@ use crate::scene::{Evidence, Scene};
 pub struct Handed {
     /// The recording, as iq or as buf.
     pub recording: Lent<f32>,
+    pub iq_len: usize,
     pub fs: f64,
     pub hint_hz: f64,
     pub elements: Lent<f64>,
     pub fits: Lent<f64>,
     pub places: Lent<f64>,
+    pub row: Lent<f64>,
+    pub classes: Lent<f64>,
     pub work: Lent<f64>,
     pub figures: Lent<f64>,
     pub carrier_hz: f64,
@@ -37,11 +40,14 @@ impl Handed {
         let fits: &[f64] = if handed(&[Slot::estimate]) { &s.given.fits } else { &[] };
         Handed {
             recording: Lent::holding("recording", recording, r),
+            iq_len: s.iq_len(),
             fs: s.recording.fs,
             hint_hz: s.recording.hint_hz,
             elements: Lent::any("elements", len(Slot::elements, s.elements_len), r),
             fits: Lent::any("fits", len(Slot::fits, s.fits_len), r),
             places: Lent::any("fits", len(Slot::places, s.places_len), r),
+            row: Lent::any("row", len(Slot::row, s.row_len), r),
+            classes: Lent::any("classes", len(Slot::classes, s.classes_len), r),
             work: Lent::any("work", len(Slot::work, s.work_len), r),
             figures: Lent::any("figures", call.figures, r),
             carrier_hz: s.given.carrier_hz,
@@ -54,12 +60,14 @@ impl Handed {
         }
     }
 
-    fn zones(&self) -> [&dyn Zone; 8] {
+    fn zones(&self) -> [&dyn Zone; 10] {
         [
             &self.recording,
             &self.elements,
             &self.fits,
             &self.places,
+            &self.row,
+            &self.classes,
             &self.work,
             &self.figures,
             &self.given_elements,
@@ -86,6 +94,8 @@ impl Handed {
         let fits = if call.is_handed(Slot::places) { &self.places } else { &self.fits };
         fits.holds(&answer.fits)?;
         fits.keeps_rest(FIT)?;
+        self.row.holds(&answer.row)?;
+        self.classes.holds(&answer.classes)?;
         if call.is_handed(Slot::buf) {
             self.buffer_holds(answer)
         } else {

@@ -5,6 +5,7 @@
 use crate::by_stand_ins::way_in::edge_window;
 use crate::by_stand_ins::{MAX_CARRIER_STEP_HZ, MIN_ELEMENTS};
 use crate::calls::call;
+use crate::questions::MOST_FLOATS;
 use crate::random::Random;
 use crate::recordings::{change_of_step, on_off, sent, Aim};
 use crate::scene::{Evidence, Given, Recording, Scene};
@@ -21,7 +22,7 @@ pub type Limit<E> = (&'static str, fn(&mut Random, Ask<E>) -> Result<(), E>);
 pub const LONGEST: usize = 1 << 20;
 
 /// All that are cheap.
-pub fn limits<E>() -> [Limit<E>; 13] {
+pub fn limits<E>() -> [Limit<E>; 14] {
     [
         ("hypotheses at their limits", |r, ask| hypotheses(4_000, r, ask)),
         ("n around every window", windows),
@@ -30,6 +31,7 @@ pub fn limits<E>() -> [Limit<E>; 13] {
         ("ranks halfway", ranks),
         ("questions, each and in pairs", questions),
         ("largest counts", largest_counts),
+        ("float counts with no recording", told_counts),
         ("blocks at the rim", rims),
         ("lists with nothing in them", no_lists),
         ("fits that overlap, lie outside or are huge", hard_fits),
@@ -123,6 +125,28 @@ fn largest_counts<E>(_: &mut Random, ask: Ask<E>) -> Result<(), E> {
             let rec = on_off(4_000 * step, fs, on, 1);
             let given = Given::own(&rec);
             ask(&Scene::least(rec, given))?;
+        }
+    }
+    Ok(())
+}
+
+/// Counts of floats that are told and not lent, about the largest that is accepted and about the largest of all, with a
+/// place for each block and with one too few.
+fn told_counts<E>(r: &mut Random, ask: Ask<E>) -> Result<(), E> {
+    let only = &["cancel_block_classes"][..];
+    for fs in [2_000.0, 3_000.0, 192_000.0] {
+        let iq = senders((0.5 * fs) as usize, fs, &[Sender::keyed(40.0, 1.0, 0.06)], 0.01, r);
+        let given = Given::own(&Recording { what: "own".into(), fs, iq, hint_hz: 40.0 });
+        let (window, _) = edge_window(fs);
+        let few = [0, 1, 2, 2 * window - 2, 2 * window, 2 * window + 2].into_iter();
+        let most = (MOST_FLOATS - 2..=MOST_FLOATS + 2).chain(usize::MAX - 2..=usize::MAX);
+        for floats in few.chain(most) {
+            let places = (floats / 2 / window).min(LONGEST);
+            for places in [places, places.saturating_sub(1), places + 3] {
+                let recording = Recording { what: format!("{floats} floats told"), fs, ..Recording::default() };
+                let scene = Scene::least(recording, given.clone());
+                ask(&Scene { told_len: Some(floats), classes_len: places, only, ..scene })?;
+            }
         }
     }
     Ok(())
@@ -287,7 +311,7 @@ pub fn longest<E>(r: &mut Random, ask: Ask<E>) -> Result<(), E> {
             _ => k as f32,
         });
         let rec = Recording { what: what.into(), fs, iq, hint_hz: 0.0 };
-        ask(&Scene { only: &["cancel_find_elements"], ..Scene::new(rec, Given::default(), r) })?;
+        ask(&Scene { only: &["cancel_find_elements", "cancel_amplitude_row"], ..Scene::new(rec, Given::default(), r) })?;
     }
     for (on, only) in [(1, &["cancel_find_elements"][..]), (10, &["cancel_estimate_strong"]), (40, &[])] {
         let rec = on_off(LONGEST, 2_000.0, on, 1);

@@ -66,7 +66,8 @@ fn wrong_hint(s: &mut Scene, r: &mut Random) {
 }
 
 fn too_few_places(s: &mut Scene, r: &mut Random) {
-    let places = steps(s.recording.iq.len(), s.recording.fs) / 2;
+    let b = steps(s.recording.iq.len(), s.recording.fs);
+    let places = b / 2;
     if r.chance(0.7) {
         s.elements_len = (places * ELEMENT).saturating_sub(1);
     }
@@ -76,6 +77,8 @@ fn too_few_places(s: &mut Scene, r: &mut Random) {
     // A count beyond any list has no list that is one number short of it.
     let numbers = s.given.element_count.checked_mul(FIT).unwrap_or(FIT).min(1 << 20);
     s.places_len = numbers.saturating_sub(1);
+    s.row_len = b.saturating_sub(8);
+    s.classes_len = (b / 8).saturating_sub(1);
 }
 
 fn wrong_given(s: &mut Scene, r: &mut Random) {

@@ -45,8 +45,8 @@ pub fn rate<'a>(fs: f64) -> Question<'a> {
     question(1, move || rate_holds(fs))
 }
 
-pub fn size<'a>(iq: &'a [f32]) -> Question<'a> {
-    question(2, || iq.len() % 2 == 0 && iq.len() <= MOST_FLOATS)
+pub fn size<'a>(floats: usize) -> Question<'a> {
+    question(2, move || floats % 2 == 0 && floats <= MOST_FLOATS)
 }
 
 pub fn finite<'a>(iq: &'a [f32]) -> Question<'a> {
@@ -65,6 +65,16 @@ pub fn room<'a>(places: usize, iq: &'a [f32], fs: f64) -> Question<'a> {
 /// Has the list of fits a place for each given element?
 pub fn room_for_each<'a>(places: usize, count: usize) -> Question<'a> {
     question(5, move || places >= count)
+}
+
+/// Has a list of so many places room for the amplitude row?
+pub fn room_for_row<'a>(places: usize, iq: &'a [f32], fs: f64) -> Question<'a> {
+    question(5, move || places >= steps(iq.len(), fs).saturating_sub(7))
+}
+
+/// Has a list of so many places room for the class of each block of a recording of so many floats?
+pub fn room_for_classes<'a>(places: usize, iq_len: usize, fs: f64) -> Question<'a> {
+    question(5, move || places >= iq_len / 2 / edge_window(fs).0)
 }
 
 pub fn work<'a>(len: usize, iq: &'a [f32], fs: f64) -> Question<'a> {

@@ -75,7 +75,11 @@ pub struct Scene {
     pub elements_len: usize,
     pub fits_len: usize,
     pub places_len: usize,
+    pub row_len: usize,
+    pub classes_len: usize,
     pub work_len: usize,
+    /// How many floats a call is told of that is lent no recording; none: as many as the recording has.
+    pub told_len: Option<usize>,
     /// The calls that it is for; none named: all.
     pub only: &'static [&'static str],
 }
@@ -88,6 +92,8 @@ impl Scene {
             elements_len: b / 2 * ELEMENT,
             fits_len: b / 2 * FIT,
             places_len: given.element_count * FIT,
+            row_len: b.saturating_sub(7),
+            classes_len: b / 8,
             work_len: 4 * b,
             recording,
             given,
@@ -98,9 +104,14 @@ impl Scene {
     /// Lengths just as large as the questions ask, or by a few numbers larger.
     pub fn new(recording: Recording, given: Given, r: &mut Random) -> Scene {
         let mut scene = Scene::least(recording, given);
+        let least = (scene.elements_len, scene.work_len);
         for len in [&mut scene.elements_len, &mut scene.fits_len, &mut scene.places_len, &mut scene.work_len] {
             *len += if r.chance(0.5) { 0 } else { r.whole(0, 12) };
         }
+        // Lists of single numbers have as many to spare as two of those: no number is drawn for them, so that what is
+        // drawn after them, and with it the stored answers, does not hang on them.
+        scene.row_len += scene.work_len - least.1;
+        scene.classes_len += scene.elements_len - least.0;
         scene
     }
 
@@ -108,6 +119,11 @@ impl Scene {
     pub fn own(recording: Recording, r: &mut Random) -> Scene {
         let given = Given::own(&recording);
         Scene::new(recording, given, r)
+    }
+
+    /// How many floats the recording has, or is said to have.
+    pub fn iq_len(&self) -> usize {
+        self.told_len.unwrap_or(self.recording.iq.len())
     }
 
     /// Is this scene for this call?

@@ -194,6 +194,11 @@ fn evidence(e: &Evidence) -> Vec<u32> {
         .collect()
 }
 
+/// Does the program replay this call? Those that fill lists of single numbers came after it.
+pub fn is_stored(call: &Call) -> bool {
+    !call.is_handed(Slot::row) && !call.is_handed(Slot::classes)
+}
+
 /// Has the program room for all that the scene lends and gives?
 pub fn has_room(s: &Scene) -> bool {
     s.recording.iq.len() <= FLOATS

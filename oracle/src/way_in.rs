@@ -23,6 +23,17 @@ pub mod way_in {
         super::classify_blocks(blocks, len, fs, n, est).iter().map(|c| format!("{c:?}")).collect()
     }
 
+    /// The number of each block's class: 0 edge, 1 interior, 2 gap, 3 other.
+    pub fn class_numbers(blocks: usize, len: usize, fs: f64, n: usize, est: &StrongEstimate) -> Vec<f64> {
+        let number = |c: &BlockClass| match c {
+            BlockClass::Edge => 0.0,
+            BlockClass::Interior => 1.0,
+            BlockClass::Gap => 2.0,
+            BlockClass::Other => 3.0,
+        };
+        super::classify_blocks(blocks, len, fs, n, est).iter().map(number).collect()
+    }
+
     /// How many blocks end as edge, interior, gap and other.
     pub fn class_counts(blocks: usize, len: usize, fs: f64, n: usize, est: &StrongEstimate) -> [usize; 4] {
         let class = super::classify_blocks(blocks, len, fs, n, est);

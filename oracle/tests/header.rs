@@ -82,6 +82,8 @@ fn figures() {
         ("CANCEL_EVIDENCE_FIGURES", "cancel_second_carrier_evidence"),
         ("CANCEL_CLASSIFY_FIGURES", "cancel_classify"),
         ("CANCEL_RUN_FIGURES", "cancel_run"),
+        ("CANCEL_ROW_FIGURES", "cancel_amplitude_row"),
+        ("CANCEL_CLASSES_FIGURES", "cancel_block_classes"),
     ] {
         match header.lines().find_map(|l| l.strip_prefix(&format!("#define {constant} "))) {
             Some(n) => assert_eq!(n.trim().parse(), Ok(call(name).figures), "{constant}"),

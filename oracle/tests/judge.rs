@@ -22,6 +22,8 @@ fn scene() -> Scene {
             for len in [&mut scene.elements_len, &mut scene.fits_len, &mut scene.places_len, &mut scene.work_len] {
                 *len += 3;
             }
+            scene.row_len += 3;
+            scene.classes_len += 3;
             return scene;
         }
     }
@@ -41,6 +43,8 @@ fn obey(call: &Call, handed: &mut Handed, outcome: &Outcome) -> u64 {
             put(&mut handed.figures, &answer.figures);
             put(&mut handed.elements, &answer.elements);
             put(if call.is_handed(Slot::places) { &mut handed.places } else { &mut handed.fits }, &answer.fits);
+            put(&mut handed.row, &answer.row);
+            put(&mut handed.classes, &answer.classes);
             if let Some(buffer) = &answer.buffer {
                 put(&mut handed.recording, buffer);
             }
@@ -82,6 +86,7 @@ fn each_slice(call: &Call, handed: &mut Handed, outcome: &Outcome, status: u64) 
     };
     let what = |slice: &str| format!("{}, {slice}", call.name);
     let (elements, fits) = accepted.map_or((0, 0), |a| (a.elements.len(), a.fits.len()));
+    let (row, classes) = accepted.map_or((0, 0), |a| (a.row.len(), a.classes.len()));
     let none = |_: usize| false;
     turned(handed, |h| &mut h.recording, judged, none, &what("recording"));
     turned(handed, |h| &mut h.figures, judged, none, &what("figures"));
@@ -93,6 +98,10 @@ fn each_slice(call: &Call, handed: &mut Handed, outcome: &Outcome, status: u64) 
     turned(handed, |h| &mut h.fits, judged, free, &what("fits"));
     let free = past(fits, handed.places.len(), FIT);
     turned(handed, |h| &mut h.places, judged, free, &what("places"));
+    let free = past(row, handed.row.len(), 1);
+    turned(handed, |h| &mut h.row, judged, free, &what("row"));
+    let free = past(classes, handed.classes.len(), 1);
+    turned(handed, |h| &mut h.classes, judged, free, &what("classes"));
     turned(handed, |h| &mut h.work, judged, |_| accepted.is_some(), &what("work"));
 }
 
