@@ -14,7 +14,7 @@ use Rattle.cancel.specs.declared.amplitude.RowAnswer.the-variants.{Refus
 use Rattle.cancel.specs.Answers.{Outcome, accepted, refused, byNumber}
 use Rattle.cancel.specs.Questions.{Asked, ask, firstNo, recordingQuestions, carrierOk, placesOk, workOk}
 
--- It asks 1 to 6. A place of the list to be filled is one number, and it needs as many as the row has amplitudes, B − 7.
+-- It asks 1 to 6. A place of the list to be filled is one number, and it needs one per amplitude, B − 7.
 abbrev pub rowQuestions : List Float → Float → Float → ℕ → ℕ → List Asked
 rowQuestions iq fs hz row work =
     recordingQuestions iq fs

@@ -46,7 +46,8 @@ unfoldable pub blockClassesOf : ℕ → Float → List Float → ℕ → List Fl
 blockClassesOf iq-len fs elements element-count fits fit-count =
     record { blocks = blocksIn iq-len fs; counts = countsOf (classesGiven iq-len fs elements element-count fits fit-count) (blocksIn iq-len fs) }
 
--- The first no is the result, and nothing is written; else the counts, and in the list the number of each block's class.
+-- The first no is the result, and nothing is written; else the counts, and in the list each block's class by its
+-- number.
 unfoldable pub classesRule : ℕ → Float → Float → Float → List Float → ℕ → List Float → ℕ → List Float → Outcome ClassesResult
 classesRule iq-len fs hz step elements element-count fits fit-count classes =
     byNumber (firstNo (classesQuestions iq-len fs hz step elements element-count fits fit-count (length classes)))

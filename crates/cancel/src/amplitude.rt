@@ -34,8 +34,8 @@ fn row_no(iq: &[f32], fs: f64, carrier_hz: f64, row: usize, work: usize) -> u64
     0
 }
 
-// Rust: `amp` and `thr` of find_elements, which keeps both to itself. It asks first; the row goes into a lent list. What
-// is promised of the numbers it was handed, that each is an f32, is what the theorems on key-downs go by.
+// Rust: `amps` and `thr` of find_elements, which keeps both to itself. It asks first; the row goes into a lent list.
+// What is promised of the numbers it was handed, that each is an f32, is what the theorems on key-downs go by.
 pub fn amplitude_row(
     iq: &[f32],
     fs: f64,

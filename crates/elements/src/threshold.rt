@@ -7,13 +7,13 @@ ghost use Prim.Native.Nat.{_≤_};
 ghost use lib.ListN.{length};
 ghost use Rattle.elements.specs.Find.{rowThreshold};
 
-// The Rust has none where it answers an empty list before it looks at the row.
+// Absent where the row has no percentile, or half of it is not positive: there the Rust answers an empty list.
 pub enum Threshold {
     At(f64),
     Absent,
 }
 
-// Rust: `thr` of find_elements, with the two ways out before its loop.
+// Rust: `thr` of find_elements, and the two ways out about it.
 pub fn row_threshold(row: &[f64]) -> Threshold
     requires { ⌜ length (now row) ≤ 2097152 ⌝ }
     ensures { λ r. ⌜ r ≡ rowThreshold (now (row .entry)) ⌝ }
