@@ -11,7 +11,7 @@ use num_complex::Complex32;
 pub struct AmplitudeRow {
     /// One for each step of the recording but the last seven.
     pub amplitudes: Vec<f64>,
-    /// Half the 98th percentile; `None` where the row is empty.
+    /// Half the 98th percentile; `None` where the row is empty or that is not positive: then there are no key-downs.
     pub threshold: Option<f64>,
 }
 
