@@ -33,9 +33,6 @@ fn link() -> Result<(), String> {
     println!("cargo:rustc-link-search=native={}", prefix.join("lib").display());
     println!("cargo:rustc-link-lib=static=cancel");
     println!("cargo:rustc-link-lib=m");
-    if env::var_os("CARGO_FEATURE_ROWS").is_some() {
-        has_rows(&library)?;
-    }
     let sha256 = digest(&library)?;
     same(&prefix.join(SHA256), &sha256)?;
     println!("cargo:rustc-env=CANCEL_COMMIT={}", commit(&prefix.join(COMMIT)));
@@ -66,20 +63,6 @@ fn prefix() -> Result<PathBuf, String> {
 
 const ADVICE: &str = "In the repository's root, `./install --prefix DIR` builds it into DIR; \
                       then set CANCEL_PREFIX=DIR (the full path) and build again";
-
-/// Stops where the library is one without the calls of the feature `rows`.
-fn has_rows(library: &Path) -> Result<(), String> {
-    let bytes = fs::read(library).map_err(|e| format!("{}: {e}", library.display()))?;
-    for call in ["cancel_amplitude_row", "cancel_block_classes"] {
-        if !bytes.windows(call.len()).any(|part| part == call.as_bytes()) {
-            return Err(format!(
-                "{}: it has no {call}, which pictures need. {ADVICE}, or build without the feature `pictures`",
-                library.display()
-            ));
-        }
-    }
-    Ok(())
-}
 
 /// The library's SHA-256.
 fn digest(library: &Path) -> Result<String, String> {

@@ -36,7 +36,6 @@ mod linked;
 mod plain;
 mod records;
 mod refusal;
-#[cfg(feature = "rows")]
 mod rows;
 mod workspace;
 
@@ -48,7 +47,6 @@ pub use plain::{
 };
 pub use records::{ElementFit, KeyDown, KeyedElement, StrongEstimate};
 pub use refusal::Refusal;
-#[cfg(feature = "rows")]
 pub use rows::{amplitude_row, block_classes, AmplitudeRow, BlockClass};
 pub use workspace::{Estimate, Fitted, Found, Ran, Workspace};
 

@@ -115,10 +115,6 @@ extern "C" {
         figures: *mut f64,
     ) -> u64;
     fn cancel_blocks(iq_len: usize, fs: f64) -> usize;
-}
-
-#[cfg(feature = "rows")]
-extern "C" {
     fn cancel_amplitude_row(
         iq: *const f32,
         iq_len: usize,
@@ -396,7 +392,6 @@ pub(crate) fn blocks(samples: usize, fs: f64) -> usize {
 }
 
 /// How many amplitudes, whether there is a threshold (0 or 1), the threshold.
-#[cfg(feature = "rows")]
 pub(crate) fn amplitude_row(
     iq: &[Complex32],
     fs: f64,
@@ -415,7 +410,6 @@ pub(crate) fn amplitude_row(
 }
 
 /// Blocks, and how many are of each class.
-#[cfg(feature = "rows")]
 pub(crate) fn block_classes(
     samples: usize,
     fs: f64,

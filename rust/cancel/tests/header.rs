@@ -12,13 +12,9 @@ const LINKED: &str = include_str!("../src/linked.rs");
 fn linked_as_the_header_has_them() {
     let header = of_header();
     let linked = of_linked();
-    assert!(linked.len() >= 9, "{linked:?}");
+    assert!(linked.len() >= 11, "{linked:?}");
     for (name, types) in &linked {
-        match header.get(name) {
-            Some(declared) => assert_eq!(types, declared, "{name}"),
-            // The two calls of the feature `rows` may be ahead of the library.
-            None => assert!(name == "cancel_amplitude_row" || name == "cancel_block_classes", "{name} is not there"),
-        }
+        assert_eq!(Some(types), header.get(name), "{name}");
     }
 }
 

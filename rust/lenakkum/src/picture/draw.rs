@@ -237,7 +237,7 @@ fn draw_neighbour<B: DrawingBackend>(area: &DrawingArea<B, Shift>, shown: &Shown
         .build_cartesian_2d(0.0..shown.seconds, 0.0..top)
         .map_err(said)?;
     mesh(&mut chart)?;
-    draw_trace(&mut chart, shown, &before.amplitudes, FAINT, 3)?;
+    draw_trace(&mut chart, shown, &before.amplitudes, FAINT, 2)?;
     draw_trace(&mut chart, shown, &after.amplitudes, INK, 2)?;
     let what = if shown.of.figures.taken { "before (light) and after (dark)" } else { "kept, so after is as before" };
     caption(area, &format!("Amplitude at the neighbour's offset, {offset_hz:+.1} Hz from that carrier: {what}."))
