@@ -47,7 +47,7 @@
  *
  * Calls are re-entrant: they keep nothing between them, so several threads may make them at once, if nothing that one
  * of them writes is lent to another. A call takes less than 32 KiB of stack, however long the recording: there is no
- * recursion, and the deepest call, cancel_run, was measured at 17.5 KB. They expect the floating-point environment that
+ * recursion, and the deepest call, cancel_run, was measured at 25.1 KB. They expect the floating-point environment that
  * a program starts with (to nearest, subnormals kept) and leave it so.
  */
 #ifndef CANCEL_H

@@ -3,11 +3,10 @@ use complex::Complex;
 ghost use mathlib.Core.Path.{_≡_};
 ghost use Prim.Native.Nat.{_/_, _≤_, min};
 ghost use lib.ListN.{length};
-ghost use Rattle.trig.specs.Sine.{sineTable};
 ghost use Rattle.complex.specs.Rows.{zFill};
 ghost use Rattle.capi.specs.Functions.{unitOf, unitAt};
 ghost use Rattle.float.specs.Single.{narrowOf};
-ghost use Rattle.trig.specs.Circle.{sinOf, cosOf};
+ghost use Rattle.trig.specs.Circle.{quarterSines, sinOf, cosOf};
 ghost use Rattle.trig.specs.Argument.{argOf};
 ghost use Rattle.trig.specs.Logarithm.{log10Of};
 ghost use Rattle.complex.specs.Value.{cNew, cNorm};
@@ -29,8 +28,8 @@ pub extern "C" fn cancel_cos(x: f64) -> f64
     trig::cos(x, &sine)
 }
 
-fn unit(x: f64, sine: &[u64; 1025]) -> Complex
-    requires { ⌜ now sine ≡ sineTable ⌝ }
+fn unit(x: f64, sine: &[f64; 1025]) -> Complex
+    requires { ⌜ now sine ≡ quarterSines ⌝ }
     ensures { λ r. ⌜ r ≡ unitOf x ⌝ }
 {
     let p = trig::sin_cos(x, sine);
@@ -47,8 +46,8 @@ fn shorter(a: usize, b: usize) -> usize
     if a <= b { a } else { b }
 }
 
-fn units(angles: &[f64], out: &mut [f64], n: usize, sine: &[u64; 1025])
-    requires { ⌜ now sine ≡ sineTable ⌝ }
+fn units(angles: &[f64], out: &mut [f64], n: usize, sine: &[f64; 1025])
+    requires { ⌜ now sine ≡ quarterSines ⌝ }
     requires { ⌜ (n ≤ length (now angles)) × (n ≤ length (now out) / 2) ⌝ }
     ensures { λ _. ⌜ now (out .exit) ≡ zFill (now (out .entry)) 0 (unitAt (now (angles .entry))) n ⌝ }
 {

@@ -1,7 +1,7 @@
 // A complex number of two f64: a value with its own operations, each made of single rounded operations in the order
 // of num_complex.
 ghost use mathlib.Core.Path.{_≡_};
-ghost use Rattle.trig.specs.Sine.{sineTable};
+ghost use Rattle.trig.specs.Circle.{quarterSines};
 ghost use Rattle.complex.specs.Value.{cNew, cAdd, cSub, cMul, cConj, cNormSqr, cNorm, cArg, cDiv, cPolar};
 
 pub struct Complex {
@@ -19,8 +19,8 @@ impl Complex {
     }
 
     // w at the angle t. The sine table is lent, so that it is made once and not at each call.
-    pub fn from_polar(w: f64, t: f64, sine: &[u64; 1025]) -> Complex
-        requires { ⌜ now sine ≡ sineTable ⌝ }
+    pub fn from_polar(w: f64, t: f64, sine: &[f64; 1025]) -> Complex
+        requires { ⌜ now sine ≡ quarterSines ⌝ }
         ensures { λ r. ⌜ r ≡ cPolar w t ⌝ }
     {
         let p = trig::sin_cos(t, sine);

@@ -9,7 +9,7 @@ ghost use lib.ListN.{length, getD};
 ghost use lib.Ieee.{nan};
 ghost use Rattle.lists.specs.Fill.{fill};
 ghost use Rattle.lists.specs.Firsts.{firsts};
-ghost use Rattle.trig.specs.Sine.{sineTable};
+ghost use Rattle.trig.specs.Circle.{quarterSines};
 ghost use Rattle.row.specs.Window.{Rate, stepBlocks};
 ghost use Rattle.row.specs.Samples.{Iq};
 ghost use Rattle.row.specs.Envelope.{rowOf, rowLength};
@@ -41,11 +41,11 @@ pub fn amplitude_row(
     carrier: f64,
     row: &mut [f64],
     work: &mut [f64],
-    sine: &[u64; 1025],
+    sine: &[f64; 1025],
 ) -> AmplitudeRow
     requires { ⌜ Iq (now iq) ⌝ }
     requires { ⌜ Rate fs ⌝ }
-    requires { ⌜ now sine ≡ sineTable ⌝ }
+    requires { ⌜ now sine ≡ quarterSines ⌝ }
     requires { ⌜ rowLength (now iq) fs ≤ length (now row) ⌝ }
     requires { ⌜ 4 * stepBlocks (now iq) fs ≤ length (now work) ⌝ }
     ensures { λ r. ⌜ (r ≡ amplitudeRowOf (now (iq .entry)) fs carrier)

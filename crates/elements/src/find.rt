@@ -9,7 +9,7 @@ use row::edge_step;
 ghost use mathlib.Core.Path.{_≡_};
 ghost use Prim.Native.Nat.{_+_, _-_, _*_, _/_, _≤_, _<_};
 ghost use lib.ListN.{length};
-ghost use Rattle.trig.specs.Sine.{sineTable};
+ghost use Rattle.trig.specs.Circle.{quarterSines};
 ghost use Rattle.row.specs.Window.{Rate, stepBlocks};
 ghost use Rattle.row.specs.Samples.{Iq};
 ghost use Rattle.elements.specs.Element.{ELEMENT, handed, handedElements};
@@ -23,11 +23,11 @@ pub fn find_elements(
     carrier: f64,
     elements: &mut [f64],
     work: &mut [f64],
-    sine: &[u64; 1025],
+    sine: &[f64; 1025],
 ) -> Found
     requires { ⌜ Iq (now iq) ⌝ }
     requires { ⌜ Rate fs ⌝ }
-    requires { ⌜ now sine ≡ sineTable ⌝ }
+    requires { ⌜ now sine ≡ quarterSines ⌝ }
     requires { ⌜ ELEMENT * (stepBlocks (now iq) fs / 2) ≤ length (now elements) ⌝ }
     requires { ⌜ 4 * stepBlocks (now iq) fs ≤ length (now work) ⌝ }
     ensures { λ r. ⌜ (r ≡ foundOf (now (iq .entry)) fs carrier)

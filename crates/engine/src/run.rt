@@ -15,7 +15,7 @@ ghost use mathlib.Core.Bool.{cond};
 ghost use Prim.Native.Nat.{_*_, _/_, _≤_};
 ghost use lib.ListN.{length};
 ghost use Rattle.float.specs.Ops.{_⊘_};
-ghost use Rattle.trig.specs.Sine.{sineTable};
+ghost use Rattle.trig.specs.Circle.{quarterSines};
 ghost use Rattle.row.specs.Samples.{Iq};
 ghost use Rattle.row.specs.Window.{Rate, stepBlocks};
 ghost use Rattle.elements.specs.Element.{ELEMENT, handed, handedElements};
@@ -74,11 +74,11 @@ fn subtract_where(
     carrier: f64,
     fits: &[f64],
     count: usize,
-    sine: &[u64; 1025],
+    sine: &[f64; 1025],
 )
     requires { ⌜ length (now buf) ≤ 2097152 ⌝ }
     requires { ⌜ 8 * count ≤ length (now fits) ⌝ }
-    requires { ⌜ now sine ≡ sineTable ⌝ }
+    requires { ⌜ now sine ≡ quarterSines ⌝ }
     ensures { λ _. ⌜ now (buf .exit)
         ≡ cond taken (subtracted fs (carrier ⊘ fs) (now (buf .entry)) (fitsIn (now (fits .entry)) count)) (now (buf .entry)) ⌝ }
 {
@@ -96,11 +96,11 @@ pub fn run(
     elements: &mut [f64],
     fits: &mut [f64],
     work: &mut [f64],
-    sine: &[u64; 1025],
+    sine: &[f64; 1025],
 ) -> Figures
     requires { ⌜ Iq (now buf) ⌝ }
     requires { ⌜ Rate fs ⌝ }
-    requires { ⌜ now sine ≡ sineTable ⌝ }
+    requires { ⌜ now sine ≡ quarterSines ⌝ }
     requires { ⌜ ELEMENT * (stepBlocks (now buf) fs / 2) ≤ length (now elements) ⌝ }
     requires { ⌜ FIT * (stepBlocks (now buf) fs / 2) ≤ length (now fits) ⌝ }
     requires { ⌜ 4 * stepBlocks (now buf) fs ≤ length (now work) ⌝ }

@@ -6,7 +6,7 @@ use elements::find_elements;
 ghost use mathlib.Core.Path.{_≡_};
 ghost use Prim.Native.Nat.{_*_, _/_, _≤_};
 ghost use lib.ListN.{length};
-ghost use Rattle.trig.specs.Sine.{sineTable};
+ghost use Rattle.trig.specs.Circle.{quarterSines};
 ghost use Rattle.row.specs.Samples.{Iq};
 ghost use Rattle.row.specs.Window.{Rate, stepBlocks};
 ghost use Rattle.elements.specs.Element.{ELEMENT, handed, handedElements};
@@ -28,11 +28,11 @@ fn find_and_fit(
     elements: &mut [f64],
     fits: &mut [f64],
     work: &mut [f64],
-    sine: &[u64; 1025],
+    sine: &[f64; 1025],
 ) -> Pass
     requires { ⌜ Iq (now iq) ⌝ }
     requires { ⌜ Rate fs ⌝ }
-    requires { ⌜ now sine ≡ sineTable ⌝ }
+    requires { ⌜ now sine ≡ quarterSines ⌝ }
     requires { ⌜ ELEMENT * (stepBlocks (now iq) fs / 2) ≤ length (now elements) ⌝ }
     requires { ⌜ FIT * (stepBlocks (now iq) fs / 2) ≤ length (now fits) ⌝ }
     requires { ⌜ 4 * stepBlocks (now iq) fs ≤ length (now work) ⌝ }
@@ -64,11 +64,11 @@ pub fn estimate_strong(
     elements: &mut [f64],
     fits: &mut [f64],
     work: &mut [f64],
-    sine: &[u64; 1025],
+    sine: &[f64; 1025],
 ) -> Estimate
     requires { ⌜ Iq (now iq) ⌝ }
     requires { ⌜ Rate fs ⌝ }
-    requires { ⌜ now sine ≡ sineTable ⌝ }
+    requires { ⌜ now sine ≡ quarterSines ⌝ }
     requires { ⌜ ELEMENT * (stepBlocks (now iq) fs / 2) ≤ length (now elements) ⌝ }
     requires { ⌜ FIT * (stepBlocks (now iq) fs / 2) ≤ length (now fits) ⌝ }
     requires { ⌜ 4 * stepBlocks (now iq) fs ≤ length (now work) ⌝ }

@@ -9,7 +9,7 @@ use elements::KeyedElement;
 ghost use mathlib.Core.Path.{_≡_};
 ghost use Prim.Native.Nat.{_+_, _-_, _*_, _/_, _≤_, _<_};
 ghost use lib.ListN.{length};
-ghost use Rattle.trig.specs.Sine.{sineTable};
+ghost use Rattle.trig.specs.Circle.{quarterSines};
 ghost use Rattle.row.specs.Samples.{Iq};
 ghost use Rattle.row.specs.Window.{Rate, stepBlocks};
 ghost use Rattle.fits.specs.Fit.{fitInside, fitOf};
@@ -38,10 +38,10 @@ fn fit_inside(
     i0: usize,
     i1: usize,
     work: &mut [f64],
-    sine: &[u64; 1025],
+    sine: &[f64; 1025],
 ) -> Fit
     requires { ⌜ Iq (now iq) ⌝ }
-    requires { ⌜ now sine ≡ sineTable ⌝ }
+    requires { ⌜ now sine ≡ quarterSines ⌝ }
     requires { ⌜ i0 < i1 ⌝ }
     requires { ⌜ 2 * i1 ≤ length (now iq) ⌝ }
     requires { ⌜ 1 ≤ block ⌝ }
@@ -70,11 +70,11 @@ pub fn fit_one(
     cyc: f64,
     e: KeyedElement,
     work: &mut [f64],
-    sine: &[u64; 1025],
+    sine: &[f64; 1025],
 ) -> Fit
     requires { ⌜ Iq (now iq) ⌝ }
     requires { ⌜ Rate fs ⌝ }
-    requires { ⌜ now sine ≡ sineTable ⌝ }
+    requires { ⌜ now sine ≡ quarterSines ⌝ }
     requires { ⌜ Timed e ⌝ }
     requires { ⌜ 4 * stepBlocks (now iq) fs ≤ length (now work) ⌝ }
     ensures { λ r. ⌜ r ≡ fitOf (now (iq .entry)) fs cyc e ⌝ }

@@ -4,14 +4,14 @@ use trig::TAU;
 ghost use mathlib.Core.Path.{_≡_};
 ghost use Prim.Native.Nat.{_+_, _*_, _^_, _≤_, _<_};
 ghost use lib.ListN.{length};
-ghost use Rattle.trig.specs.Sine.{sineTable};
+ghost use Rattle.trig.specs.Circle.{quarterSines};
 ghost use Rattle.row.specs.Samples.{Iq};
 ghost use Rattle.fits.specs.Gain.{hann, tiltOf, gainSum, hannSum};
 ghost use Rattle.fits.specs.Inner.{leveledBy};
 
 // Rust: `w` in `fit_elements`.
-fn hann_weight(len: usize, j: usize, sine: &[u64; 1025]) -> f64
-    requires { ⌜ now sine ≡ sineTable ⌝ }
+fn hann_weight(len: usize, j: usize, sine: &[f64; 1025]) -> f64
+    requires { ⌜ now sine ≡ quarterSines ⌝ }
     requires { ⌜ (len ≤ 2 ^ 20) × (j ≤ 2 ^ 20) ⌝ }
     ensures { λ r. ⌜ r ≡ hann len j ⌝ }
 {
@@ -34,10 +34,10 @@ fn leveled_at(
     w: f64,
     slope: f64,
     reference: f64,
-    sine: &[u64; 1025],
+    sine: &[f64; 1025],
 ) -> Complex
     requires { ⌜ Iq (now iq) ⌝ }
-    requires { ⌜ now sine ≡ sineTable ⌝ }
+    requires { ⌜ now sine ≡ quarterSines ⌝ }
     requires { ⌜ 2 * k + 1 < length (now iq) ⌝ }
     ensures { λ r. ⌜ r ≡ leveledBy (now (iq .entry)) cyc slope reference k w ⌝ }
 {
@@ -59,10 +59,10 @@ pub fn weigh(
     len: usize,
     slope: f64,
     reference: f64,
-    sine: &[u64; 1025],
+    sine: &[f64; 1025],
 ) -> Weighed
     requires { ⌜ Iq (now iq) ⌝ }
-    requires { ⌜ now sine ≡ sineTable ⌝ }
+    requires { ⌜ now sine ≡ quarterSines ⌝ }
     requires { ⌜ 2 * (i0 + len) ≤ length (now iq) ⌝ }
     ensures { λ r. ⌜ (r .sum ≡ gainSum (now (iq .entry)) cyc i0 len slope reference) × (r .weight ≡ hannSum len) ⌝ }
 {

@@ -10,7 +10,7 @@ use elements::put_element_from;
 ghost use mathlib.Core.Path.{_≡_};
 ghost use Prim.Native.Nat.{_+_, _*_, _≤_};
 ghost use lib.ListN.{length};
-ghost use Rattle.trig.specs.Sine.{sineTable};
+ghost use Rattle.trig.specs.Circle.{quarterSines};
 ghost use Rattle.row.specs.Samples.{Iq};
 ghost use Rattle.row.specs.Window.{Rate, stepBlocks};
 ghost use Rattle.elements.specs.Element.{ELEMENT, elementsIn, handed};
@@ -75,11 +75,11 @@ pub fn fit_elements(
     count: usize,
     fits: &mut [f64],
     work: &mut [f64],
-    sine: &[u64; 1025],
+    sine: &[f64; 1025],
 ) -> usize
     requires { ⌜ Iq (now iq) ⌝ }
     requires { ⌜ Rate fs ⌝ }
-    requires { ⌜ now sine ≡ sineTable ⌝ }
+    requires { ⌜ now sine ≡ quarterSines ⌝ }
     requires { ⌜ AllTimed (now elements) count ⌝ }
     requires { ⌜ ELEMENT * count ≤ length (now elements) ⌝ }
     requires { ⌜ FIT * count ≤ length (now fits) ⌝ }

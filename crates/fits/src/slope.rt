@@ -4,7 +4,7 @@ use complex::Complex;
 ghost use mathlib.Core.Path.{_≡_};
 ghost use Prim.Native.Nat.{_+_, _*_, _/_, _≤_, _<_};
 ghost use lib.ListN.{length};
-ghost use Rattle.trig.specs.Sine.{sineTable};
+ghost use Rattle.trig.specs.Circle.{quarterSines};
 ghost use Rattle.complex.specs.Value.{cNew, cNorm};
 ghost use Rattle.complex.specs.Rows.{zFill};
 ghost use Rattle.row.specs.Samples.{Iq};
@@ -18,10 +18,10 @@ fn slope_mean(
     i0: usize,
     block: usize,
     b: usize,
-    sine: &[u64; 1025],
+    sine: &[f64; 1025],
 ) -> Complex
     requires { ⌜ Iq (now iq) ⌝ }
-    requires { ⌜ now sine ≡ sineTable ⌝ }
+    requires { ⌜ now sine ≡ quarterSines ⌝ }
     requires { ⌜ 2 * (i0 + b * block + block) ≤ length (now iq) ⌝ }
     ensures { λ r. ⌜ r ≡ slopeMean (now (iq .entry)) cyc i0 block b ⌝ }
 {
@@ -53,10 +53,10 @@ fn unwrap_phase(
     block: usize,
     n: usize,
     work: &mut [f64],
-    sine: &[u64; 1025],
+    sine: &[f64; 1025],
 )
     requires { ⌜ Iq (now iq) ⌝ }
-    requires { ⌜ now sine ≡ sineTable ⌝ }
+    requires { ⌜ now sine ≡ quarterSines ⌝ }
     requires { ⌜ 2 * (i0 + n * block) ≤ length (now iq) ⌝ }
     requires { ⌜ 2 * n ≤ length (now work) ⌝ }
     requires { ⌜ 1 ≤ n ⌝ }
@@ -82,10 +82,10 @@ pub fn phase_slope(
     len: usize,
     block: usize,
     work: &mut [f64],
-    sine: &[u64; 1025],
+    sine: &[f64; 1025],
 ) -> f64
     requires { ⌜ Iq (now iq) ⌝ }
-    requires { ⌜ now sine ≡ sineTable ⌝ }
+    requires { ⌜ now sine ≡ quarterSines ⌝ }
     requires { ⌜ 2 * (i0 + len) ≤ length (now iq) ⌝ }
     requires { ⌜ 1 ≤ block ⌝ }
     requires { ⌜ 2 * (len / block) ≤ length (now work) ⌝ }

@@ -163,10 +163,13 @@ module _ (m : ℕ) (e : ℤ) (t : T (fits binary64 (fin false m e))) (h : m * up
       minus-above (fin true n d) a c v h = h
       minus-above (fin false n d) a c v h = true≢false (sym (v .0))
 
+pub small-fin : (m : ℕ) (e : ℤ) → T (fits binary64 (fin false m e)) → m * up e < 2 ^ 52 * down e → Small (fin false m e)
+small-fin m e t h = small-at m e t h (bounce-is m e h)
+
 pub small-is : (x : Float) → T (fits binary64 x) → T (lt nought x) → T (lt x limit) → Small x
 small-is x t h k =
     let w = small x h k in
-    subst Small (sym (w .2)) (small-at (w .0) (w .1) (subst (λ (y : Float). T (fits binary64 y)) (w .2) t) (w .3) (bounce-is (w .0) (w .1) (w .3)))
+    subst Small (sym (w .2)) (small-fin (w .0) (w .1) (subst (λ (y : Float). T (fits binary64 y)) (w .2) t) (w .3))
 
 -- ---- a value that is whole already: from 2 ^ 52 on, and zero
 too-long : (m p : ℕ) → 0 < p → m < 2 ^ 53 → 2 ^ 52 * (2 * p) ≤ m → ⊥

@@ -7,7 +7,7 @@ use mathlib.Core.Path.{_≡_, refl, sym, _∙_}
 use mathlib.Core.Logic.{⊎-elim}
 use mathlib.Core.List.{List}
 use lib.ListN.{length, getD, set, take, drop, length-set, length-drop}
-use lib.Seq.{getD-set-same, getD-set-other, length-take-le, getD-take, getD-drop, ext-getD}
+use lib.Seq.{getD-set-same, getD-set-other, length-take-le, getD-take, getD-drop, take-all, ext-getD}
 use Rattle.lists.specs.Fill.{fill}
 use Rattle.lists.specs.Firsts.{firsts}
 use Rattle.lists.proofs.Firsts.{length-firsts, getD-firsts}
@@ -27,6 +27,10 @@ module _ {A : Type 0} where
       → cur ≡ fill l at f n → v ≡ f n → set cur (at + n) v ≡ fill l at f (n + 1)
   unfolding fill
   fill-turn l at f n cur v p e = rw (add-one, p, e)
+
+  -- a turn of a loop that stores from the start of a list on
+  pub fill-turn0 : (l : List A) (f : ℕ → A) (n : ℕ) (cur : List A) (v : A) → cur ≡ fill l 0 f n → v ≡ f n → set cur n v ≡ fill l 0 f (n + 1)
+  fill-turn0 l f n cur v p e = let here : 0 + n ≡ n = omega arith in rw here at (fill-turn l 0 f n cur v p e)
 
   pub fill-done : (l : List A) (at : ℕ) (f : ℕ → A) (n k : ℕ) (cur : List A) → cur ≡ fill l at f k → k ≤ n → n ≤ k → cur ≡ fill l at f n
   fill-done l at f n k cur p h g = let all : k ≡ n = omega arith in rw all at p
@@ -67,3 +71,9 @@ module _ {A : Type 0} where
       (λ i b.
       let g : i < n = omega arith in
       getD-take n (drop at (fill l at f n)) i d g ∙ getD-drop at (fill l at f n) i d ∙ getD-fill l at f n i d g h ∙ sym (getD-firsts f n i d g))
+
+  -- a row stored over a whole list is the list of the row
+  pub fill-all : (l : List A) (f : ℕ → A) (n : ℕ) (d : A) → length l ≡ n → fill l 0 f n ≡ firsts f n
+  fill-all l f n d h =
+      let long : length (fill l 0 f n) ≡ n = length-fill l 0 f n ∙ h in
+      sym (take-all n (fill l 0 f n) (omega arith)) ∙ part-fill l 0 f n d (omega arith)

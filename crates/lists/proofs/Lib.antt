@@ -1,7 +1,8 @@
 -- Laws on rows and lists that the crates above cite, by subject.
 
--- Fill      a loop that stores: `fill-none`, `fill-turn`, `fill-done`; `length-fill`, `fill-cong`; what is read back:
---           `getD-fill`, `getD-fill-below`, `getD-fill-above`; a part of the list: `part-fill`
+-- Fill      a loop that stores: `fill-none`, `fill-turn`, `fill-turn0`, `fill-done`; `length-fill`, `fill-cong`; what
+--           is read back: `getD-fill`, `getD-fill-below`, `getD-fill-above`; a part of the list: `part-fill`; all of
+--           it: `fill-all`
 -- Firsts    `length-firsts`, `getD-firsts`, `firsts-cong`, `firsts-take`, `firsts-all`
 -- Every     `every-at`, `every-not`, `every-cong`; the halves of an && that is true: `and-left`, `and-right`
 -- Count     `count-cong`, `count-le`, `count-most`, `count-apart`

@@ -11,7 +11,7 @@ use row::edge_step;
 ghost use mathlib.Core.Path.{_≡_};
 ghost use Prim.Native.Nat.{_*_, _≤_};
 ghost use lib.ListN.{length};
-ghost use Rattle.trig.specs.Sine.{sineTable};
+ghost use Rattle.trig.specs.Circle.{quarterSines};
 ghost use Rattle.complex.specs.Rows.{zAt};
 ghost use Rattle.row.specs.Samples.{Iq};
 ghost use Rattle.row.specs.Window.{Rate, windowOf, blocks, stepBlocks};
@@ -58,10 +58,10 @@ fn evidence_with(
     work: &[f64],
     nb: usize,
     reference: f64,
-    sine: &[u64; 1025],
+    sine: &[f64; 1025],
 ) -> SecondCarrierEvidence
     requires { ⌜ Iq (now iq) ⌝ }
-    requires { ⌜ now sine ≡ sineTable ⌝ }
+    requires { ⌜ now sine ≡ quarterSines ⌝ }
     requires { ⌜ len ≡ windowOf fs ⌝ }
     requires { ⌜ nb ≡ blocks (now iq) len ⌝ }
     requires { ⌜ 3 * nb ≤ length (now work) ⌝ }
@@ -86,11 +86,11 @@ pub fn evidence(
     carrier: f64,
     work: &mut [f64],
     nb: usize,
-    sine: &[u64; 1025],
+    sine: &[f64; 1025],
 ) -> SecondCarrierEvidence
     requires { ⌜ Iq (now iq) ⌝ }
     requires { ⌜ Rate fs ⌝ }
-    requires { ⌜ now sine ≡ sineTable ⌝ }
+    requires { ⌜ now sine ≡ quarterSines ⌝ }
     requires { ⌜ nb ≡ blocks (now iq) (windowOf fs) ⌝ }
     requires { ⌜ 5 * nb ≤ length (now work) ⌝ }
     ensures { λ r. ⌜ r ≡ evidenceBy (meanAt (now (iq .entry)) fs) fs carrier (classIn (now (work .entry)) (2 * nb) Gap)
@@ -111,11 +111,11 @@ pub fn second_carrier_evidence(
     fits: &[f64],
     fit_count: usize,
     work: &mut [f64],
-    sine: &[u64; 1025],
+    sine: &[f64; 1025],
 ) -> SecondCarrierEvidence
     requires { ⌜ Iq (now iq) ⌝ }
     requires { ⌜ Rate fs ⌝ }
-    requires { ⌜ now sine ≡ sineTable ⌝ }
+    requires { ⌜ now sine ≡ quarterSines ⌝ }
     requires { ⌜ 4 * «element_count» ≤ length (now elements) ⌝ }
     requires { ⌜ 8 * «fit_count» ≤ length (now fits) ⌝ }
     requires { ⌜ 4 * stepBlocks (now iq) fs ≤ length (now work) ⌝ }

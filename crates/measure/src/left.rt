@@ -12,7 +12,7 @@ ghost use Prim.Native.Nat.{ℕ, _+_, _*_, _≤_, _<_, max};
 ghost use lib.ListN.{length, getD};
 ghost use lib.Ieee.{nan};
 ghost use Rattle.lists.specs.Fill.{fill};
-ghost use Rattle.trig.specs.Sine.{sineTable};
+ghost use Rattle.trig.specs.Circle.{quarterSines};
 ghost use Rattle.complex.specs.Rows.{zAt};
 ghost use Rattle.fits.specs.List.{fitsIn};
 ghost use Rattle.measure.specs.Left.{takenFrom, lessSpan, lessFit, lessFits};
@@ -26,9 +26,9 @@ fn taken_from(
     len: usize,
     a: usize,
     n: usize,
-    sine: &[u64; 1025],
+    sine: &[f64; 1025],
 ) -> Complex
-    requires { ⌜ now sine ≡ sineTable ⌝ }
+    requires { ⌜ now sine ≡ quarterSines ⌝ }
     requires { ⌜ len ≤ 1048576 ⌝ }
     requires { ⌜ a + n ≤ 1048576 ⌝ }
     ensures { λ r. ⌜ r ≡ takenFrom fs len f z a n ⌝ }
@@ -56,9 +56,9 @@ fn less_span(
     fs: f64,
     from: usize,
     len: usize,
-    sine: &[u64; 1025],
+    sine: &[f64; 1025],
 ) -> Complex
-    requires { ⌜ now sine ≡ sineTable ⌝ }
+    requires { ⌜ now sine ≡ quarterSines ⌝ }
     requires { ⌜ from + len ≤ 1048576 ⌝ }
     ensures { λ r. ⌜ r ≡ lessSpan fs len f s from z ⌝ }
 {
@@ -73,8 +73,8 @@ fn less_span(
 }
 
 // One fit taken off the nb means of a row. Rust: the body of the loop over the fits.
-fn less_fit(row: &mut [f64], nb: usize, f: ElementFit, fs: f64, len: usize, sine: &[u64; 1025])
-    requires { ⌜ now sine ≡ sineTable ⌝ }
+fn less_fit(row: &mut [f64], nb: usize, f: ElementFit, fs: f64, len: usize, sine: &[f64; 1025])
+    requires { ⌜ now sine ≡ quarterSines ⌝ }
     requires { ⌜ 0 < len ⌝ }
     requires { ⌜ nb * len ≤ 1048576 ⌝ }
     requires { ⌜ length (now row) ≡ 2 * nb ⌝ }
@@ -100,9 +100,9 @@ fn less_fits(
     count: usize,
     fs: f64,
     len: usize,
-    sine: &[u64; 1025],
+    sine: &[f64; 1025],
 )
-    requires { ⌜ now sine ≡ sineTable ⌝ }
+    requires { ⌜ now sine ≡ quarterSines ⌝ }
     requires { ⌜ 0 < len ⌝ }
     requires { ⌜ nb * len ≤ 1048576 ⌝ }
     requires { ⌜ length (now row) ≡ 2 * nb ⌝ }
@@ -134,9 +134,9 @@ pub fn lessen(
     count: usize,
     fs: f64,
     len: usize,
-    sine: &[u64; 1025],
+    sine: &[f64; 1025],
 )
-    requires { ⌜ now sine ≡ sineTable ⌝ }
+    requires { ⌜ now sine ≡ quarterSines ⌝ }
     requires { ⌜ 0 < len ⌝ }
     requires { ⌜ nb * len ≤ 1048576 ⌝ }
     requires { ⌜ 6 * nb ≤ length (now work) ⌝ }

@@ -11,7 +11,7 @@ ghost use lib.ListN.{length};
 ghost use lib.Ieee.{lt};
 ghost use Rattle.float.specs.Ops.{_⊘_, of, minus-zero};
 ghost use Rattle.lists.specs.Sums.{sumOver};
-ghost use Rattle.trig.specs.Sine.{sineTable};
+ghost use Rattle.trig.specs.Circle.{quarterSines};
 ghost use Rattle.complex.specs.Rows.{zAt};
 ghost use Rattle.row.specs.Samples.{Iq};
 ghost use Rattle.row.specs.Window.{windowOf, blocks};
@@ -43,10 +43,10 @@ fn paired_power(
     work: &[f64],
     nb: usize,
     level: f64,
-    sine: &[u64; 1025],
+    sine: &[f64; 1025],
 ) -> f64
     requires { ⌜ Iq (now iq) ⌝ }
-    requires { ⌜ now sine ≡ sineTable ⌝ }
+    requires { ⌜ now sine ≡ quarterSines ⌝ }
     requires { ⌜ nb ≡ blocks (now iq) len ⌝ }
     requires { ⌜ 3 * nb ≤ length (now work) ⌝ }
     ensures { λ r. ⌜ r ≡ sumOver (blockPower (blockMean (now (iq .entry)) cyc len)) minus-zero
@@ -71,10 +71,10 @@ fn measured(
     nb: usize,
     level: f64,
     f: f64,
-    sine: &[u64; 1025],
+    sine: &[f64; 1025],
 ) -> Candidate
     requires { ⌜ Iq (now iq) ⌝ }
-    requires { ⌜ now sine ≡ sineTable ⌝ }
+    requires { ⌜ now sine ≡ quarterSines ⌝ }
     requires { ⌜ len ≡ windowOf fs ⌝ }
     requires { ⌜ nb ≡ blocks (now iq) len ⌝ }
     requires { ⌜ 3 * nb ≤ length (now work) ⌝ }
@@ -105,10 +105,10 @@ fn strongest(
     level: f64,
     f0: f64,
     rate: f64,
-    sine: &[u64; 1025],
+    sine: &[f64; 1025],
 ) -> f64
     requires { ⌜ Iq (now iq) ⌝ }
-    requires { ⌜ now sine ≡ sineTable ⌝ }
+    requires { ⌜ now sine ≡ quarterSines ⌝ }
     requires { ⌜ len ≡ windowOf fs ⌝ }
     requires { ⌜ nb ≡ blocks (now iq) len ⌝ }
     requires { ⌜ 3 * nb ≤ length (now work) ⌝ }
@@ -132,10 +132,10 @@ pub fn find_offset(
     nb: usize,
     reference: f64,
     pairs: Pairs,
-    sine: &[u64; 1025],
+    sine: &[f64; 1025],
 ) -> Offset
     requires { ⌜ Iq (now iq) ⌝ }
-    requires { ⌜ now sine ≡ sineTable ⌝ }
+    requires { ⌜ now sine ≡ quarterSines ⌝ }
     requires { ⌜ len ≡ windowOf fs ⌝ }
     requires { ⌜ nb ≡ blocks (now iq) len ⌝ }
     requires { ⌜ 3 * nb ≤ length (now work) ⌝ }

@@ -12,7 +12,7 @@ ghost use Prim.Native.Nat.{_+_, _*_, _≤_};
 ghost use lib.ListN.{length, take};
 ghost use Rattle.lists.specs.Count.{countTo};
 ghost use Rattle.lists.specs.Those.{keep};
-ghost use Rattle.trig.specs.Sine.{sineTable};
+ghost use Rattle.trig.specs.Circle.{quarterSines};
 ghost use Rattle.row.specs.Samples.{Iq};
 ghost use Rattle.row.specs.Window.{windowOf, blocks};
 ghost use Rattle.row.specs.Blocks.{blockMean};
@@ -42,10 +42,10 @@ fn gap_powers(
     work: &mut [f64],
     nb: usize,
     out: usize,
-    sine: &[u64; 1025],
+    sine: &[f64; 1025],
 ) -> usize
     requires { ⌜ Iq (now iq) ⌝ }
-    requires { ⌜ now sine ≡ sineTable ⌝ }
+    requires { ⌜ now sine ≡ quarterSines ⌝ }
     requires { ⌜ nb ≡ blocks (now iq) len ⌝ }
     requires { ⌜ 3 * nb ≤ out ⌝ }
     requires { ⌜ out + nb ≤ length (now work) ⌝ }
@@ -70,10 +70,10 @@ fn side_level(
     len: usize,
     work: &mut [f64],
     nb: usize,
-    sine: &[u64; 1025],
+    sine: &[f64; 1025],
 ) -> f64
     requires { ⌜ Iq (now iq) ⌝ }
-    requires { ⌜ now sine ≡ sineTable ⌝ }
+    requires { ⌜ now sine ≡ quarterSines ⌝ }
     requires { ⌜ len ≡ windowOf fs ⌝ }
     requires { ⌜ nb ≡ blocks (now iq) len ⌝ }
     requires { ⌜ 5 * nb ≤ length (now work) ⌝ }
@@ -97,10 +97,10 @@ pub fn find_reference(
     len: usize,
     work: &mut [f64],
     nb: usize,
-    sine: &[u64; 1025],
+    sine: &[f64; 1025],
 ) -> f64
     requires { ⌜ Iq (now iq) ⌝ }
-    requires { ⌜ now sine ≡ sineTable ⌝ }
+    requires { ⌜ now sine ≡ quarterSines ⌝ }
     requires { ⌜ len ≡ windowOf fs ⌝ }
     requires { ⌜ nb ≡ blocks (now iq) len ⌝ }
     requires { ⌜ 5 * nb ≤ length (now work) ⌝ }

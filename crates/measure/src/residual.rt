@@ -12,7 +12,7 @@ use rank::Percentile;
 ghost use mathlib.Core.Path.{_≡_};
 ghost use Prim.Native.Nat.{_*_, _≤_};
 ghost use lib.ListN.{length, take};
-ghost use Rattle.trig.specs.Sine.{sineTable};
+ghost use Rattle.trig.specs.Circle.{quarterSines};
 ghost use Rattle.row.specs.Samples.{Iq};
 ghost use Rattle.row.specs.Window.{Rate, windowOf, stepBlocks};
 ghost use Rattle.elements.specs.Element.{elementsIn};
@@ -91,9 +91,9 @@ pub fn residual(
     fs: f64,
     fits: &[f64],
     count: usize,
-    sine: &[u64; 1025],
+    sine: &[f64; 1025],
 ) -> ResidualCheck
-    requires { ⌜ now sine ≡ sineTable ⌝ }
+    requires { ⌜ now sine ≡ quarterSines ⌝ }
     requires { ⌜ Rate fs ⌝ }
     requires { ⌜ nb * windowOf fs ≤ 1048576 ⌝ }
     requires { ⌜ 7 * nb ≤ length (now work) ⌝ }
@@ -121,11 +121,11 @@ pub fn residual_check(
     fits: &[f64],
     fit_count: usize,
     work: &mut [f64],
-    sine: &[u64; 1025],
+    sine: &[f64; 1025],
 ) -> ResidualCheck
     requires { ⌜ Iq (now iq) ⌝ }
     requires { ⌜ Rate fs ⌝ }
-    requires { ⌜ now sine ≡ sineTable ⌝ }
+    requires { ⌜ now sine ≡ quarterSines ⌝ }
     requires { ⌜ 4 * «element_count» ≤ length (now elements) ⌝ }
     requires { ⌜ 8 * «fit_count» ≤ length (now fits) ⌝ }
     requires { ⌜ 4 * stepBlocks (now iq) fs ≤ length (now work) ⌝ }

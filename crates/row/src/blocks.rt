@@ -5,16 +5,16 @@ use trig::TAU;
 ghost use mathlib.Core.Path.{_≡_};
 ghost use Prim.Native.Nat.{_+_, _*_, _^_, _<_, _≤_};
 ghost use lib.ListN.{length};
-ghost use Rattle.trig.specs.Sine.{sineTable};
+ghost use Rattle.trig.specs.Circle.{quarterSines};
 ghost use Rattle.complex.specs.Rows.{zFill};
 ghost use Rattle.row.specs.Window.{blocks};
 ghost use Rattle.row.specs.Samples.{Iq};
 ghost use Rattle.row.specs.Blocks.{rotorOf, derot, meanFrom, blockMean};
 
 // Rust: rotor. The sine table is lent, so that it is made once and not at each call.
-pub fn rotor(cyc: f64, k: usize, sine: &[u64; 1025]) -> Complex
+pub fn rotor(cyc: f64, k: usize, sine: &[f64; 1025]) -> Complex
     requires { ⌜ k ≤ 2 ^ 53 ⌝ }
-    requires { ⌜ now sine ≡ sineTable ⌝ }
+    requires { ⌜ now sine ≡ quarterSines ⌝ }
     ensures { λ r. ⌜ r ≡ rotorOf cyc k ⌝ }
 {
     let p = trig::sin_cos(float::rem_one(cyc * float::exact(k)) * TAU, sine);
@@ -25,9 +25,9 @@ pub fn rotor(cyc: f64, k: usize, sine: &[u64; 1025]) -> Complex
 }
 
 // Rust: derotated, which divides the carrier by fs anew for each sample.
-pub fn derotated(iq: &[f32], cyc: f64, k: usize, sine: &[u64; 1025]) -> Complex
+pub fn derotated(iq: &[f32], cyc: f64, k: usize, sine: &[f64; 1025]) -> Complex
     requires { ⌜ Iq (now iq) ⌝ }
-    requires { ⌜ now sine ≡ sineTable ⌝ }
+    requires { ⌜ now sine ≡ quarterSines ⌝ }
     requires { ⌜ 2 * k + 1 < length (now iq) ⌝ }
     ensures { λ r. ⌜ r ≡ derot (now (iq .entry)) cyc k ⌝ }
 {
@@ -35,9 +35,9 @@ pub fn derotated(iq: &[f32], cyc: f64, k: usize, sine: &[u64; 1025]) -> Complex
 }
 
 // The mean of the len derotated samples from sample a. Rust: the inner loop of block_means.
-pub fn mean_from(iq: &[f32], cyc: f64, a: usize, len: usize, sine: &[u64; 1025]) -> Complex
+pub fn mean_from(iq: &[f32], cyc: f64, a: usize, len: usize, sine: &[f64; 1025]) -> Complex
     requires { ⌜ Iq (now iq) ⌝ }
-    requires { ⌜ now sine ≡ sineTable ⌝ }
+    requires { ⌜ now sine ≡ quarterSines ⌝ }
     requires { ⌜ 2 * (a + len) ≤ length (now iq) ⌝ }
     ensures { λ r. ⌜ r ≡ meanFrom (now (iq .entry)) cyc a len ⌝ }
 {
@@ -50,9 +50,9 @@ pub fn mean_from(iq: &[f32], cyc: f64, a: usize, len: usize, sine: &[u64; 1025])
 }
 
 // Number b of the block means.
-pub fn block_mean(iq: &[f32], cyc: f64, len: usize, b: usize, sine: &[u64; 1025]) -> Complex
+pub fn block_mean(iq: &[f32], cyc: f64, len: usize, b: usize, sine: &[f64; 1025]) -> Complex
     requires { ⌜ Iq (now iq) ⌝ }
-    requires { ⌜ now sine ≡ sineTable ⌝ }
+    requires { ⌜ now sine ≡ quarterSines ⌝ }
     requires { ⌜ 2 * (b * len + len) ≤ length (now iq) ⌝ }
     ensures { λ r. ⌜ r ≡ blockMean (now (iq .entry)) cyc len b ⌝ }
 {
@@ -60,9 +60,9 @@ pub fn block_mean(iq: &[f32], cyc: f64, len: usize, b: usize, sine: &[u64; 1025]
 }
 
 // Rust: block_means. The means go into a lent slice, as complex numbers from its start on; the answer is their number.
-pub fn block_means(iq: &[f32], cyc: f64, len: usize, out: &mut [f64], sine: &[u64; 1025]) -> usize
+pub fn block_means(iq: &[f32], cyc: f64, len: usize, out: &mut [f64], sine: &[f64; 1025]) -> usize
     requires { ⌜ Iq (now iq) ⌝ }
-    requires { ⌜ now sine ≡ sineTable ⌝ }
+    requires { ⌜ now sine ≡ quarterSines ⌝ }
     requires { ⌜ 0 < len ⌝ }
     requires { ⌜ 2 * blocks (now iq) len ≤ length (now out) ⌝ }
     ensures { λ r. ⌜ (r ≡ blocks (now (iq .entry)) len)

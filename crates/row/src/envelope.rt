@@ -6,7 +6,7 @@ ghost use Prim.Native.Nat.{_+_, _-_, _*_, _<_, _≤_};
 ghost use lib.ListN.{length};
 ghost use Rattle.complex.specs.Rows.{zAt, zFill};
 ghost use Rattle.lists.specs.Fill.{fill};
-ghost use Rattle.trig.specs.Sine.{sineTable};
+ghost use Rattle.trig.specs.Circle.{quarterSines};
 ghost use Rattle.row.specs.Window.{blocks};
 ghost use Rattle.row.specs.Samples.{Iq};
 ghost use Rattle.row.specs.Blocks.{blockMean};
@@ -43,9 +43,9 @@ fn running(work: &mut [f64], b: usize)
 
 // The means of the blocks of `step` samples as complex numbers from the start of `work` on, and after them their row
 // of amplitudes.
-pub fn amplitudes(iq: &[f32], cyc: f64, step: usize, work: &mut [f64], sine: &[u64; 1025])
+pub fn amplitudes(iq: &[f32], cyc: f64, step: usize, work: &mut [f64], sine: &[f64; 1025])
     requires { ⌜ Iq (now iq) ⌝ }
-    requires { ⌜ now sine ≡ sineTable ⌝ }
+    requires { ⌜ now sine ≡ quarterSines ⌝ }
     requires { ⌜ 0 < step ⌝ }
     requires { ⌜ 8 ≤ blocks (now iq) step ⌝ }
     requires { ⌜ 3 * blocks (now iq) step ≤ length (now work) ⌝ }

@@ -6,13 +6,13 @@ use fits::ElementFit;
 use trig::TAU;
 ghost use mathlib.Core.Path.{_≡_};
 ghost use Prim.Native.Nat.{_≤_};
-ghost use Rattle.trig.specs.Sine.{sineTable};
+ghost use Rattle.trig.specs.Circle.{quarterSines};
 ghost use Rattle.synth.specs.Baseband.{envelopeOf, synthAt};
 
 // Rust: `env` in `synth_baseband`.
-fn envelope(e: KeyedElement, fs: f64, k: usize, sine: &[u64; 1025]) -> f64
+fn envelope(e: KeyedElement, fs: f64, k: usize, sine: &[f64; 1025]) -> f64
     requires { ⌜ k ≤ 9007199254740992 ⌝ }
-    requires { ⌜ now sine ≡ sineTable ⌝ }
+    requires { ⌜ now sine ≡ quarterSines ⌝ }
     ensures { λ r. ⌜ r ≡ envelopeOf fs e k ⌝ }
 {
     let at = float::exact(k);
@@ -20,9 +20,9 @@ fn envelope(e: KeyedElement, fs: f64, k: usize, sine: &[u64; 1025]) -> f64
 }
 
 // Rust: synth_baseband.
-pub fn synth_baseband(f: ElementFit, fs: f64, k: usize, sine: &[u64; 1025]) -> Complex
+pub fn synth_baseband(f: ElementFit, fs: f64, k: usize, sine: &[f64; 1025]) -> Complex
     requires { ⌜ k ≤ 9007199254740992 ⌝ }
-    requires { ⌜ now sine ≡ sineTable ⌝ }
+    requires { ⌜ now sine ≡ quarterSines ⌝ }
     ensures { λ r. ⌜ r ≡ synthAt fs f k ⌝ }
 {
     let env = envelope(f.element, fs, k, sine);

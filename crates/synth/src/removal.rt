@@ -7,16 +7,16 @@ ghost use mathlib.Core.Path.{_≡_};
 ghost use Prim.Native.Nat.{_+_, _*_, _/_, _<_, _≤_};
 ghost use lib.ListN.{length};
 ghost use Rattle.float.specs.Ops.{_⊘_};
-ghost use Rattle.trig.specs.Sine.{sineTable};
+ghost use Rattle.trig.specs.Circle.{quarterSines};
 ghost use Rattle.complex.specs.Rows.{zAt, zSet};
 ghost use Rattle.fits.specs.List.{fitsIn};
 ghost use Rattle.synth.specs.Removal.{lessSingle, sentAt, subtracted};
 ghost use Rattle.synth.specs.Inner.{takenPart};
 
 // Rust: `s` in `subtract`.
-fn sent_at(f: ElementFit, fs: f64, cyc: f64, k: usize, sine: &[u64; 1025]) -> Complex
+fn sent_at(f: ElementFit, fs: f64, cyc: f64, k: usize, sine: &[f64; 1025]) -> Complex
     requires { ⌜ k ≤ 9007199254740992 ⌝ }
-    requires { ⌜ now sine ≡ sineTable ⌝ }
+    requires { ⌜ now sine ≡ quarterSines ⌝ }
     ensures { λ r. ⌜ r ≡ sentAt fs cyc f k ⌝ }
 {
     synth_baseband(f, fs, k, sine).mul(row::rotor(cyc, k, sine))
@@ -36,9 +36,9 @@ fn take_at(part: &mut [f32], j: usize, s: Complex)
 
 // Rust: the inner loop of subtract, over the part of the buffer that the fit's span covers. The part's first sample is
 // number lo of the recording.
-fn take_off(part: &mut [f32], lo: usize, f: ElementFit, fs: f64, cyc: f64, sine: &[u64; 1025])
+fn take_off(part: &mut [f32], lo: usize, f: ElementFit, fs: f64, cyc: f64, sine: &[f64; 1025])
     requires { ⌜ lo + length (now part) ≤ 9007199254740992 ⌝ }
-    requires { ⌜ now sine ≡ sineTable ⌝ }
+    requires { ⌜ now sine ≡ quarterSines ⌝ }
     ensures { λ _. ⌜ now (part .exit) ≡ takenPart fs cyc f lo (now (part .entry)) (length (now (part .entry)) / 2) ⌝ }
 {
     let n = part.len() / 2;
@@ -55,11 +55,11 @@ pub fn subtract(
     carrier: f64,
     fits: &[f64],
     count: usize,
-    sine: &[u64; 1025],
+    sine: &[f64; 1025],
 )
     requires { ⌜ length (now buf) ≤ 2097152 ⌝ }
     requires { ⌜ 8 * count ≤ length (now fits) ⌝ }
-    requires { ⌜ now sine ≡ sineTable ⌝ }
+    requires { ⌜ now sine ≡ quarterSines ⌝ }
     ensures { λ _. ⌜ now (buf .exit) ≡ subtracted fs (carrier ⊘ fs) (now (buf .entry)) (fitsIn (now (fits .entry)) count) ⌝ }
 {
     let cyc = carrier / fs;

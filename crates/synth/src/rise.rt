@@ -2,12 +2,12 @@
 use constants::RISE_S;
 use trig::PI;
 ghost use mathlib.Core.Path.{_≡_};
-ghost use Rattle.trig.specs.Sine.{sineTable};
+ghost use Rattle.trig.specs.Circle.{quarterSines};
 ghost use Rattle.synth.specs.Rise.{rcOf};
 
 // Rust: rc.
-pub fn rc(t: f64, sine: &[u64; 1025]) -> f64
-    requires { ⌜ now sine ≡ sineTable ⌝ }
+pub fn rc(t: f64, sine: &[f64; 1025]) -> f64
+    requires { ⌜ now sine ≡ quarterSines ⌝ }
     ensures { λ r. ⌜ r ≡ rcOf t ⌝ }
 {
     if t <= -RISE_S / 2.0 {

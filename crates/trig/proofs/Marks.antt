@@ -290,7 +290,7 @@ last-digits false n h = rw (signed-pos n h) (omega arith)
 last-digits true zero h = rw signed-zero refl
 last-digits true (suc k) h = rw (signed-minus k (omega arith)) (omega arith)
 
-top-bound : (m : ℕ) (e : ℤ) → T (le (fin false m e) (of 8191)) → m * up e ≤ 8191 * down e
+pub top-bound : (m : ℕ) (e : ℤ) → T (le (fin false m e) (of 8191)) → m * up e ≤ 8191 * down e
 top-bound m e h =
     let k : m * up e * 1 ≤ 8191 * down e = le→value (fin false m e) (of 8191) (m * up e) (down e) 8191 1 (down-pos e) (lit< tt) (refl, refl) (whole-value binary64 8191 (lit≤ tt)) h in
     omega arith

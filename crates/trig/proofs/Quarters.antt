@@ -12,11 +12,9 @@ use lib.Ieee.Fits.{down-pos, eq→eqb}
 use Rattle.float.specs.Compare.{absOf}
 use Rattle.float.proofs.Compared.{same-truth}
 use Rattle.trig.specs.Circle.{entryOf, sineAt, within}
+use Rattle.trig.specs.Inner.{folded}
 
 -- ---- the place in the first quarter
-abbrev pub folded : ℕ → ℕ
-folded p = cond (leb (p % 2048) 1024) (p % 2048) (2048 - p % 2048)
-
 either : (b : Bool) (x y z : ℕ) → (T b → x ≡ z) → (T (not b) → y ≡ z) → cond b x y ≡ z
 either true x y z f g = f tt
 either false x y z f g = g tt
@@ -52,6 +50,19 @@ quarters p h = go (leb p 1024) (leb p 2048) (leb p 3072) (leb→le p 1024) (nleb
     go false false false i j k l m n = ap (λ (z : ℕ). neg (entryOf z)) (fourth p (n tt) h)
 
 -- ---- a quarter of a turn further
+pub mirrored : (p : ℕ) → p < 4096 → 1024 - folded p ≡ folded ((p + 1024) % 4096)
+mirrored p h = go (leb p 1024) (leb p 2048) (leb p 3072) (leb→le p 1024) (nleb→lt p 1024) (leb→le p 2048) (nleb→lt p 2048) (leb→le p 3072) (nleb→lt p 3072)
+  where
+    to : (y z : ℕ) → folded p ≡ y → (let q = (p + 1024) % 4096 in q % 2048 ≤ 1024 → q % 2048 ≡ z) → (let q = (p + 1024) % 4096 in 1024 < q % 2048 → 2048 - q % 2048 ≡ z) → 1024 - y ≡ z → 1024 - folded p ≡ folded ((p + 1024) % 4096)
+    to y z e f g d = rw (e, folded-is ((p + 1024) % 4096) z f g) d
+
+    go : (a b c : Bool) → (T a → p ≤ 1024) → (T (not a) → 1024 < p) → (T b → p ≤ 2048) → (T (not b) → 2048 < p) → (T c → p ≤ 3072) → (T (not c) → 3072 < p) →
+        1024 - folded p ≡ folded ((p + 1024) % 4096)
+    go true b c i j k l m n = let x = i tt in to p (1024 - p) (first p x) (λ g. omega arith) (λ g. omega arith) refl
+    go false true c i j k l m n = let x = j tt in let y = k tt in to (2048 - p) (p - 1024) (second p x y) (λ g. omega arith) (λ g. omega arith) (omega arith)
+    go false false true i j k l m n = let x = l tt in let y = m tt in to (p - 2048) (3072 - p) (third p x y) (λ g. omega arith) (λ g. omega arith) (omega arith)
+    go false false false i j k l m n = let x = n tt in to (4096 - p) (p - 3072) (fourth p x h) (λ g. omega arith) (λ g. omega arith) (omega arith)
+
 pub further : (i : ℤ) → within (i +ℤ pos 1024) ≡ (within i + 1024) % 4096
 unfolding within
 further (pos n) = omega arith

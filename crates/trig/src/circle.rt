@@ -4,18 +4,29 @@ use crate::consts::PI;
 use float::TWO_52;
 ghost use mathlib.Core.Path.{_≡_};
 ghost use mathlib.Core.Bool.{true, cond};
-ghost use Prim.Native.Nat.{_-_, _*_, _%_, _^_, _<_};
+ghost use Prim.Native.Nat.{_*_, _^_, _<_};
 ghost use lib.Dec.{leb};
 ghost use lib.Ieee.{le};
 ghost use Rattle.float.specs.Ops.{of, _⊕_};
 ghost use Rattle.float.specs.Compare.{absOf};
 ghost use Rattle.float.specs.Whole.{roundOf};
-ghost use Rattle.trig.specs.Sine.{sineTable};
-ghost use Rattle.trig.specs.Circle.{restOf, indexOf, within, smallSine, smallCosine, entryOf, sineAt, sinOf, cosOf};
+ghost use Rattle.trig.specs.Inner.{folded};
+ghost use Rattle.trig.specs.Circle.{restOf, indexOf, within, smallSine, smallCosine, entryOf, quarterSines, sineAt, sinOf, cosOf};
 
 // 3 × 2^51: a sum with it from 2^52 up to 2^53 has no digit after the point, and its last digits are those of the whole
 // number that was added, negative or not.
 const MARK: f64 = 6755399441055744.0;
+
+// The size of round(y). The sum with 2^52 has a half go to the even one of its neighbours. It is shorter than
+// float::round, so that `sin_cos` is short enough to be compiled into the loops that call it.
+fn nearest(y: f64) -> f64
+    requires { ⌜ le (absOf y) (of 8191) ≡ true ⌝ }
+    ensures { λ n. ⌜ n ≡ roundOf (absOf y) ⌝ }
+{
+    let m = float::abs(y);
+    let t = (m + TWO_52) - TWO_52;
+    pick(m - t >= 0.5, t + 1.0, t)
+}
 
 // MARK + round(y). The sum with MARK rounds y to the nearest whole number. Only where y may lie half-way between two
 // does the way of rounding matter.
@@ -28,7 +39,8 @@ fn marked(y: f64) -> f64
     if d * d < 0.25 {
         w
     } else {
-        float::round(y) + MARK
+        let n = nearest(y);
+        pick(y < 0.0, -n, n) + MARK
     }
 }
 
@@ -62,31 +74,41 @@ fn small_cosine(r: f64) -> f64
     1.0 - r * r / 2.0 + r * r * r * r / 24.0
 }
 
-// An entry of the table, over 2^52.
-fn entry(sine: &[u64; 1025], k: usize) -> f64
-    requires { ⌜ now sine ≡ sineTable ⌝ }
+// An entry of the table.
+fn entry(sine: &[f64; 1025], k: usize) -> f64
+    requires { ⌜ now sine ≡ quarterSines ⌝ }
     requires { ⌜ k < 1025 ⌝ }
     ensures { λ r. ⌜ r ≡ entryOf k ⌝ }
 {
-    float::exact(sine[k] as usize) / TWO_52
+    sine[k]
 }
 
 // The place in the first quarter that has the same sine, but for the sign.
 fn fold(p: usize) -> usize
-    ensures { λ k. ⌜ (k ≡ cond (leb (p % 2048) 1024) (p % 2048) (2048 - p % 2048)) × (k < 1025) ⌝ }
+    ensures { λ k. ⌜ (k ≡ folded p) × (k < 1025) ⌝ }
 {
     let h = p % 2048;
     if h <= 1024 { h } else { 2048 - h }
 }
 
-// The sine of p/4096 turn: past half a turn it is negative.
-fn sine_at(sine: &[u64; 1025], p: usize) -> f64
-    requires { ⌜ now sine ≡ sineTable ⌝ }
+// The sign's bit of the sine of p/4096 turn: past half a turn it is negative.
+fn sign_at(p: usize) -> u64
+    ensures { λ b. ⌜ b ≡ cond (leb p 2048) 0 (2 ^ 63) ⌝ }
+{
+    if p <= 2048 { 0 } else { 0x8000_0000_0000_0000 }
+}
+
+// The sine of p/4096 turn, from the entry k that it is but for the sign. The sign goes into the bit pattern, since a
+// choice between v and -v is compiled to a branch, which the angles decide.
+fn sine_at(sine: &[f64; 1025], k: usize, p: usize) -> f64
+    requires { ⌜ now sine ≡ quarterSines ⌝ }
     requires { ⌜ p < 4096 ⌝ }
+    requires { ⌜ k < 1025 ⌝ }
+    requires { ⌜ k ≡ folded p ⌝ }
     ensures { λ r. ⌜ r ≡ sineAt p ⌝ }
 {
-    let v = entry(sine, fold(p));
-    pick(p <= 2048, v, -v)
+    let v = entry(sine, k);
+    f64::from_bits(f64::to_bits(v) + sign_at(p))
 }
 
 // The sine and the cosine of one angle.
@@ -95,8 +117,8 @@ pub struct SinCos {
     pub cos: f64,
 }
 
-fn within_seven(x: f64, sine: &[u64; 1025]) -> SinCos
-    requires { ⌜ now sine ≡ sineTable ⌝ }
+fn within_seven(x: f64, sine: &[f64; 1025]) -> SinCos
+    requires { ⌜ now sine ≡ quarterSines ⌝ }
     requires { ⌜ le (absOf x) (of 7) ≡ true ⌝ }
     ensures { λ r. ⌜ (r .sin ≡ sinOf x) × (r .cos ≡ cosOf x) ⌝ }
 {
@@ -104,8 +126,10 @@ fn within_seven(x: f64, sine: &[u64; 1025]) -> SinCos
     let at = p.at;
     let s = small_sine(p.rest);
     let c = small_cosine(p.rest);
-    let v = sine_at(sine, at);
-    let w = sine_at(sine, (at + 1024) % 4096);
+    // The cosine is the sine a quarter of a turn further, whose place is as far from 1,024 as k is from 0.
+    let k = fold(at);
+    let v = sine_at(sine, k, at);
+    let w = sine_at(sine, 1024 - k, (at + 1024) % 4096);
     SinCos {
         sin: v * c + w * s,
         cos: w * c - v * s,
@@ -113,8 +137,8 @@ fn within_seven(x: f64, sine: &[u64; 1025]) -> SinCos
 }
 
 // The table is lent, so that the outermost caller makes it once: `let sine = trig::sine_table();`.
-pub fn sin_cos(x: f64, sine: &[u64; 1025]) -> SinCos
-    requires { ⌜ now sine ≡ sineTable ⌝ }
+pub fn sin_cos(x: f64, sine: &[f64; 1025]) -> SinCos
+    requires { ⌜ now sine ≡ quarterSines ⌝ }
     ensures { λ r. ⌜ (r .sin ≡ sinOf x) × (r .cos ≡ cosOf x) ⌝ }
 {
     if x <= 7.0 {
@@ -126,8 +150,8 @@ pub fn sin_cos(x: f64, sine: &[u64; 1025]) -> SinCos
 }
 
 // Rust: f64::sin.
-pub fn sin(x: f64, sine: &[u64; 1025]) -> f64
-    requires { ⌜ now sine ≡ sineTable ⌝ }
+pub fn sin(x: f64, sine: &[f64; 1025]) -> f64
+    requires { ⌜ now sine ≡ quarterSines ⌝ }
     ensures { λ r. ⌜ r ≡ sinOf x ⌝ }
 {
     let p = sin_cos(x, sine);
@@ -135,8 +159,8 @@ pub fn sin(x: f64, sine: &[u64; 1025]) -> f64
 }
 
 // Rust: f64::cos.
-pub fn cos(x: f64, sine: &[u64; 1025]) -> f64
-    requires { ⌜ now sine ≡ sineTable ⌝ }
+pub fn cos(x: f64, sine: &[f64; 1025]) -> f64
+    requires { ⌜ now sine ≡ quarterSines ⌝ }
     ensures { λ r. ⌜ r ≡ cosOf x ⌝ }
 {
     let p = sin_cos(x, sine);
