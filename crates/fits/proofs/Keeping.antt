@@ -1,28 +1,21 @@
--- The derotated samples of an interior in the work slice: a loop that keeps them, what is stored before them leaves them,
--- and a block's mean is theirs.
-use Prim.Native.Nat.{ℕ, zero, suc, _+_, _*_, _≤_, _<_}
+-- The derotated samples of an interior in the work slice: a loop that keeps them, a store before them, and the mean of
+-- a block of them.
+use Prim.Native.Nat.{ℕ, suc, _+_, _*_, _≤_, _<_}
 use native.Mathlib.Nat.{add-assoc, not-suc-le-zero, eq-or-lt-of-le, le-of-suc-le-suc}
-use native.Mathlib.Numerals.{add-one}
 use native.Mathlib.Omega.{arith}
-use mathlib.Core.Path.{_≡_, refl, sym, ap, _∙_}
+use mathlib.Core.Path.{_≡_, sym, ap, _∙_}
 use mathlib.Core.Logic.{⊎-elim}
 use mathlib.Core.List.{List}
 use lib.ListN.{length, length-set}
 use lib.Ieee.{Float}
 use Rattle.float.specs.Ops.{of}
 use Rattle.complex.specs.declared.value.Complex.{Complex}
-use Rattle.complex.specs.Value.{cAdd, cDiv}
+use Rattle.complex.specs.Value.{cDiv}
 use Rattle.complex.specs.Rows.{zAt, zSet, cSum}
-use Rattle.complex.proofs.RowLaws.{zAt-zSet-same, zAt-zSet-other}
+use Rattle.complex.proofs.RowLaws.{cSum-moved, zAt-zSet-same, zAt-zSet-other}
 use Rattle.row.specs.Blocks.{derot, meanFrom}
 use Rattle.fits.specs.Slope.{slopeMean}
 use Rattle.fits.specs.Inner.{Derotated}
-
--- sums of the same terms, wherever these stand in their rows
-cSum-moved : (f g : ℕ → Complex) (a b n : ℕ) → ((i : ℕ) → i < n → f (a + i) ≡ g (b + i)) → cSum f a n ≡ cSum g b n
-unfolding cSum
-cSum-moved f g a b zero h = refl
-cSum-moved f g a b (suc n) h = rw (cSum-moved f g a b n (λ i l. h i (omega arith)), h n (omega arith))
 
 module _ (iq : List Float) (cyc : Float) (i0 at : ℕ) where
   pub kept-none : (l : List Float) (m : ℕ) → 2 * (at + m) ≤ length l → Derotated iq cyc i0 at 0 l
