@@ -66,6 +66,6 @@ pub record Derotated (iq : List Float) (cyc : Float) (i0 at m : ℕ) (l : List F
   pub each : (j : ℕ) → j < m → zAt l (at + j) ≡ derot iq cyc (i0 + j)
   pub room : 2 * (at + m) ≤ length l
 
--- ---- the term of sample k of the gain, which is z derotated, with the weight w
+-- ---- the term of sample k of the gain, whose derotated value is z, with the weight w
 abbrev pub leveledBy : Float → Float → ℕ → Float → Complex → Complex
 leveledBy slope ref k w z = cMul z (cPolar w (tiltOf slope ref k))

@@ -28,7 +28,7 @@ fn tilt(slope: f64, reference: f64, k: usize) -> f64
     float::rem_euclid(-slope * (float::exact(k) - reference), TAU)
 }
 
-// The term of sample k, which is z derotated, with its weight w.
+// The term of sample k, whose derotated value is z, with its weight w.
 fn leveled_at(
     z: Complex,
     k: usize,

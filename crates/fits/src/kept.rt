@@ -1,6 +1,6 @@
-// The derotated samples of an interior, kept in the work slice behind the points of the slope fit: the slope and the gain
-// both read them, and derotating a sample costs more than keeping it. A slice too short for all of them keeps the first,
-// and the others are derotated where they are read.
+// The derotated samples of an interior, kept in the work slice behind the points of the slope fit: slope and gain both
+// read them, and to read one costs less than to derotate it again. A slice too short for all of them keeps the first
+// ones, and the others are derotated where they are read.
 use complex::Complex;
 ghost use mathlib.Core.Path.{_≡_};
 ghost use Prim.Native.Nat.{_+_, _*_, _≤_, _<_};

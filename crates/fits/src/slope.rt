@@ -101,7 +101,8 @@ pub fn phase_slope(
     requires { ⌜ 1 ≤ block ⌝ }
     requires { ⌜ len / block ≤ kept .at ⌝ }
     requires { ⌜ Derotated (now iq) cyc i0 (kept .at) (kept .count) (now work) ⌝ }
-    ensures { λ r. ⌜ (r ≡ slopeOf (now (iq .entry)) cyc i0 len block) × Derotated (now (iq .entry)) cyc i0 (kept .at) (kept .count) (now (work .exit)) ⌝ }
+    ensures { λ r. ⌜ (r ≡ slopeOf (now (iq .entry)) cyc i0 len block)
+        × Derotated (now (iq .entry)) cyc i0 (kept .at) (kept .count) (now (work .exit)) ⌝ }
 {
     let n = len / block;
     if n < 2 {
