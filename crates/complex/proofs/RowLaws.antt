@@ -94,10 +94,14 @@ zAt-zFill l f (suc n) k h g =
     (λ b. zAt-zSet-other (zFill l 0 f n) n k (f n) (omega arith) ∙ zAt-zFill l f n k b (omega arith))
     (eq-or-lt-of-le (le-of-suc-le-suc h)))
 
-pub cSum-cong : (f g : ℕ → Complex) (a n : ℕ) → ((k : ℕ) → k < a + n → f k ≡ g k) → cSum f a n ≡ cSum g a n
+-- sums of the same terms, wherever these stand in their rows
+pub cSum-moved : (f g : ℕ → Complex) (a b n : ℕ) → ((i : ℕ) → i < n → f (a + i) ≡ g (b + i)) → cSum f a n ≡ cSum g b n
 unfolding cSum
-cSum-cong f g a zero h = refl
-cSum-cong f g a (suc n) h = rw (cSum-cong f g a n (λ k b. h k (omega arith)), h (a + n) (omega arith))
+cSum-moved f g a b zero h = refl
+cSum-moved f g a b (suc n) h = rw (cSum-moved f g a b n (λ i l. h i (omega arith)), h n (omega arith))
+
+pub cSum-cong : (f g : ℕ → Complex) (a n : ℕ) → ((k : ℕ) → k < a + n → f k ≡ g k) → cSum f a n ≡ cSum g a n
+cSum-cong f g a n h = cSum-moved f g a a n (λ i l. h (a + i) (omega arith))
 
 -- what lies below a row of floats is as it was
 pub zAt-fill-below : (l : List Float) (at : ℕ) (f : ℕ → Float) (n k : ℕ) → 2 * k + 1 < at → zAt (fill l at f n) k ≡ zAt l k

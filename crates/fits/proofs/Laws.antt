@@ -15,6 +15,7 @@ use Rattle.complex.specs.Value.{cNew, cAdd, cNorm, cArg}
 use Rattle.complex.specs.Rows.{cSum, zSet, zFill}
 use Rattle.complex.proofs.RowLaws.{cSum-none0, cSum-turn0, cSum-done0, zFill-none, zFill-turn0, zFill-done}
 use Rattle.lists.specs.Sums.{fSum, total}
+use Rattle.row.specs.Blocks.{derot}
 use Rattle.lists.proofs.Sums.{fSum-none, fSum-turn, fSum-done}
 use Rattle.fits.specs.Line.{weighted, moment, lineSlope}
 use Rattle.fits.specs.Slope.{phaseOn, phaseOf}
@@ -59,9 +60,9 @@ point-is z b phase mean r p e q = rw (q, p, e)
 pub cSum-turn00 : (f : ℕ → Complex) (n : ℕ) (acc x r : Complex) → acc ≡ cSum f 0 n → x ≡ f n → r ≡ cAdd acc x → r ≡ cSum f 0 (n + 1)
 cSum-turn00 f n acc x r p q e = let here : 0 + n ≡ n = omega arith in cSum-turn0 f 0 n acc x r p (rw here q) e
 
-pub leveled-is : (iq : List Float) (cyc : Float) (i0 len : ℕ) (slope ref : Float) (j : ℕ) (w : Float) (r : Complex)
-    → w ≡ hann len j → r ≡ leveledBy iq cyc slope ref (i0 + j) w → r ≡ leveled iq cyc i0 len slope ref j
-leveled-is iq cyc i0 len slope ref j w r e p = rw (p, e)
+pub leveled-is : (iq : List Float) (cyc : Float) (i0 len : ℕ) (slope ref : Float) (j : ℕ) (w : Float) (z r : Complex)
+    → w ≡ hann len j → z ≡ derot iq cyc (i0 + j) → r ≡ leveledBy slope ref (i0 + j) w z → r ≡ leveled iq cyc i0 len slope ref j
+leveled-is iq cyc i0 len slope ref j w z r e d p = rw (p, e, d)
 
 -- ---- the three ways out of a line's slope, of two points or more
 module _ (w t p : ℕ → Float) (n : ℕ) (ws wt wp : Float) (more : 2 ≤ n) (e : ws ≡ total w n) where

@@ -1,9 +1,10 @@
 -- Not needed to read a public promise: what the functions behind `fit_elements` and `estimate_strong` require and
 -- ensure. Definitions only.
-use Prim.Native.Nat.{ℕ, _+_, _*_, _<_}
+use Prim.Native.Nat.{ℕ, _+_, _*_, _≤_, _<_}
+use mathlib.Core.Path.{_≡_}
 use mathlib.Core.List.{List}
 use lib.Dec.{T}
-use lib.ListN.{set}
+use lib.ListN.{length, set}
 use lib.Ieee.{Float}
 use Rattle.float.specs.Size.{sized}
 use Rattle.complex.specs.declared.value.Complex.{Complex}
@@ -58,6 +59,13 @@ phaseIn l b = zAt l b .re
 abbrev pub weightIn : List Float → ℕ → Float
 weightIn l b = zAt l b .im
 
--- ---- the term of sample k of the gain, with the weight w
-abbrev pub leveledBy : List Float → Float → Float → Float → ℕ → Float → Complex
-leveledBy iq cyc slope ref k w = cMul (derot iq cyc k) (cPolar w (tiltOf slope ref k))
+-- ---- the derotated samples of an interior that begins at i0, in the work slice
+
+-- m of them, the first at complex number `at`
+pub record Derotated (iq : List Float) (cyc : Float) (i0 at m : ℕ) (l : List Float) : Type 0 where
+  pub each : (j : ℕ) → j < m → zAt l (at + j) ≡ derot iq cyc (i0 + j)
+  pub room : 2 * (at + m) ≤ length l
+
+-- ---- the term of sample k of the gain, whose derotated value is z, with the weight w
+abbrev pub leveledBy : Float → Float → ℕ → Float → Complex → Complex
+leveledBy slope ref k w z = cMul z (cPolar w (tiltOf slope ref k))

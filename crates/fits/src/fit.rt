@@ -3,6 +3,8 @@ use crate::gain::weigh;
 use crate::interior::Interior;
 use crate::interior::interior_of;
 use crate::interior::slope_block;
+use crate::kept::derotate;
+use crate::kept::room_for;
 use crate::slope::phase_slope;
 use complex::Complex;
 use elements::KeyedElement;
@@ -50,8 +52,10 @@ fn fit_inside(
 {
     let len = i1 - i0;
     let reference = float::exact(i0 + i1 - 1) / 2.0;
-    let slope = phase_slope(iq, cyc, i0, len, block, work, sine);
-    let w = weigh(iq, cyc, i0, len, slope, reference, sine);
+    let kept = room_for(len, len / block, work.len());
+    derotate(iq, cyc, i0, kept, work, sine);
+    let slope = phase_slope(iq, cyc, i0, len, block, kept, work, sine);
+    let w = weigh(iq, cyc, i0, len, slope, reference, kept, work, sine);
     if w.weight <= 0.0 {
         return Fit::Skipped;
     }

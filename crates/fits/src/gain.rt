@@ -1,4 +1,6 @@
 // The gain of an interior: the Hann-weighted mean of its derotated samples, with the slope removed.
+use crate::kept::Kept;
+use crate::kept::derotated_at;
 use complex::Complex;
 use trig::TAU;
 ghost use mathlib.Core.Path.{_≡_};
@@ -7,7 +9,7 @@ ghost use lib.ListN.{length};
 ghost use Rattle.trig.specs.Circle.{quarterSines};
 ghost use Rattle.row.specs.Samples.{Iq};
 ghost use Rattle.fits.specs.Gain.{hann, tiltOf, gainSum, hannSum};
-ghost use Rattle.fits.specs.Inner.{leveledBy};
+ghost use Rattle.fits.specs.Inner.{Derotated, leveledBy};
 
 // Rust: `w` in `fit_elements`.
 fn hann_weight(len: usize, j: usize, sine: &[f64; 1025]) -> f64
@@ -26,23 +28,21 @@ fn tilt(slope: f64, reference: f64, k: usize) -> f64
     float::rem_euclid(-slope * (float::exact(k) - reference), TAU)
 }
 
-// The term of sample k, with its weight w.
+// The term of sample k, whose derotated value is z, with its weight w.
 fn leveled_at(
-    iq: &[f32],
-    cyc: f64,
+    z: Complex,
     k: usize,
     w: f64,
     slope: f64,
     reference: f64,
     sine: &[f64; 1025],
 ) -> Complex
-    requires { ⌜ Iq (now iq) ⌝ }
     requires { ⌜ now sine ≡ quarterSines ⌝ }
-    requires { ⌜ 2 * k + 1 < length (now iq) ⌝ }
-    ensures { λ r. ⌜ r ≡ leveledBy (now (iq .entry)) cyc slope reference k w ⌝ }
+    requires { ⌜ k ≤ 2 ^ 20 ⌝ }
+    ensures { λ r. ⌜ r ≡ leveledBy slope reference k w z ⌝ }
 {
     let t = tilt(slope, reference, k);
-    row::derotated(iq, cyc, k, sine).mul(Complex::from_polar(w, t, sine))
+    z.mul(Complex::from_polar(w, t, sine))
 }
 
 // The sums of the terms and of their weights.
@@ -59,18 +59,22 @@ pub fn weigh(
     len: usize,
     slope: f64,
     reference: f64,
+    kept: Kept,
+    work: &[f64],
     sine: &[f64; 1025],
 ) -> Weighed
     requires { ⌜ Iq (now iq) ⌝ }
     requires { ⌜ now sine ≡ quarterSines ⌝ }
     requires { ⌜ 2 * (i0 + len) ≤ length (now iq) ⌝ }
+    requires { ⌜ Derotated (now iq) cyc i0 (kept .at) (kept .count) (now work) ⌝ }
     ensures { λ r. ⌜ (r .sum ≡ gainSum (now (iq .entry)) cyc i0 len slope reference) × (r .weight ≡ hannSum len) ⌝ }
 {
     let mut sum = Complex::ZERO;
     let mut weight = 0.0;
     for j in 0..len {
         let w = hann_weight(len, j, sine);
-        sum = sum.add(leveled_at(iq, cyc, i0 + j, w, slope, reference, sine));
+        let z = derotated_at(iq, cyc, i0, j, kept, work, sine);
+        sum = sum.add(leveled_at(z, i0 + j, w, slope, reference, sine));
         weight = weight + w;
     }
     Weighed { sum, weight }

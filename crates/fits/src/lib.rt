@@ -4,6 +4,7 @@ pub mod estimate;
 pub mod fit;
 pub mod gain;
 pub mod interior;
+pub mod kept;
 pub mod line;
 pub mod list;
 pub mod slope;

@@ -1,4 +1,5 @@
 // The phase slope of an interior, from the phases of its block means.
+use crate::kept::Kept;
 use crate::line::line_slope;
 use complex::Complex;
 ghost use mathlib.Core.Path.{_≡_};
@@ -9,23 +10,30 @@ ghost use Rattle.complex.specs.Value.{cNew, cNorm};
 ghost use Rattle.complex.specs.Rows.{zFill};
 ghost use Rattle.row.specs.Samples.{Iq};
 ghost use Rattle.fits.specs.Slope.{slopeMean, phaseOn, slopeOf};
-ghost use Rattle.fits.specs.Inner.{pointOf};
+ghost use Rattle.fits.specs.Inner.{Derotated, pointOf};
 
-// The mean of the samples of block b.
+// The mean of the samples of block b. A block that is not kept whole is derotated.
 fn slope_mean(
     iq: &[f32],
     cyc: f64,
     i0: usize,
     block: usize,
     b: usize,
+    kept: Kept,
+    work: &[f64],
     sine: &[f64; 1025],
 ) -> Complex
     requires { ⌜ Iq (now iq) ⌝ }
     requires { ⌜ now sine ≡ quarterSines ⌝ }
     requires { ⌜ 2 * (i0 + b * block + block) ≤ length (now iq) ⌝ }
+    requires { ⌜ Derotated (now iq) cyc i0 (kept .at) (kept .count) (now work) ⌝ }
     ensures { λ r. ⌜ r ≡ slopeMean (now (iq .entry)) cyc i0 block b ⌝ }
 {
-    row::mean_from(iq, cyc, i0 + b * block, block, sine)
+    let first = b * block;
+    if first + block <= kept.count {
+        return complex::sum(work, kept.at + first, block).div_real(float::exact(block));
+    }
+    row::mean_from(iq, cyc, i0 + first, block, sine)
 }
 
 fn phase_on(phase: f64, before: Complex, next: Complex) -> f64
@@ -44,7 +52,7 @@ fn point(phase: f64, mean: Complex) -> Complex
     }
 }
 
-// The first n points of the slope fit go into the work slice, from its start on.
+// The first n points of the slope fit go into the work slice, from its start on, and the kept samples stay.
 // Rust: the loop over the blocks in `fit_elements`, which keeps the times too.
 fn unwrap_phase(
     iq: &[f32],
@@ -52,21 +60,23 @@ fn unwrap_phase(
     i0: usize,
     block: usize,
     n: usize,
+    kept: Kept,
     work: &mut [f64],
     sine: &[f64; 1025],
 )
     requires { ⌜ Iq (now iq) ⌝ }
     requires { ⌜ now sine ≡ quarterSines ⌝ }
     requires { ⌜ 2 * (i0 + n * block) ≤ length (now iq) ⌝ }
-    requires { ⌜ 2 * n ≤ length (now work) ⌝ }
-    requires { ⌜ 1 ≤ n ⌝ }
-    ensures { λ _. ⌜ now (work .exit) ≡ zFill (now (work .entry)) 0 (pointOf (slopeMean (now (iq .entry)) cyc i0 block)) n ⌝ }
+    requires { ⌜ Derotated (now iq) cyc i0 (kept .at) (kept .count) (now work) ⌝ }
+    requires { ⌜ (1 ≤ n) × (n ≤ kept .at) ⌝ }
+    ensures { λ _. ⌜ (now (work .exit) ≡ zFill (now (work .entry)) 0 (pointOf (slopeMean (now (iq .entry)) cyc i0 block)) n)
+        × Derotated (now (iq .entry)) cyc i0 (kept .at) (kept .count) (now (work .exit)) ⌝ }
 {
     let last = n - 1;
-    let mut mean = slope_mean(iq, cyc, i0, block, 0, sine);
+    let mut mean = slope_mean(iq, cyc, i0, block, 0, kept, work, sine);
     let mut phase = mean.arg();
     for b in 0..last {
-        let next = slope_mean(iq, cyc, i0, block, b + 1, sine);
+        let next = slope_mean(iq, cyc, i0, block, b + 1, kept, work, sine);
         complex::put(work, b, point(phase, mean));
         phase = phase_on(phase, mean, next);
         mean = next;
@@ -81,6 +91,7 @@ pub fn phase_slope(
     i0: usize,
     len: usize,
     block: usize,
+    kept: Kept,
     work: &mut [f64],
     sine: &[f64; 1025],
 ) -> f64
@@ -88,13 +99,15 @@ pub fn phase_slope(
     requires { ⌜ now sine ≡ quarterSines ⌝ }
     requires { ⌜ 2 * (i0 + len) ≤ length (now iq) ⌝ }
     requires { ⌜ 1 ≤ block ⌝ }
-    requires { ⌜ 2 * (len / block) ≤ length (now work) ⌝ }
-    ensures { λ r. ⌜ r ≡ slopeOf (now (iq .entry)) cyc i0 len block ⌝ }
+    requires { ⌜ len / block ≤ kept .at ⌝ }
+    requires { ⌜ Derotated (now iq) cyc i0 (kept .at) (kept .count) (now work) ⌝ }
+    ensures { λ r. ⌜ (r ≡ slopeOf (now (iq .entry)) cyc i0 len block)
+        × Derotated (now (iq .entry)) cyc i0 (kept .at) (kept .count) (now (work .exit)) ⌝ }
 {
     let n = len / block;
     if n < 2 {
         return 0.0;
     }
-    unwrap_phase(iq, cyc, i0, block, n, work, sine);
+    unwrap_phase(iq, cyc, i0, block, n, kept, work, sine);
     line_slope(work, i0, block, n)
 }
