@@ -1,7 +1,7 @@
 // The percentile of a list, without sorting it and without moving anything: every value has an ordinal, a whole
 // number of 64 bits, and the ordinals are in `total_cmp` order. The ordinal at a rank is found from its highest digit
-// down, each digit by one pass that counts. Where values are equal or nearly so, a pass that looks for the least and
-// the greatest ordinal skips the bits that they have in common.
+// down, each digit by one pass that counts. Among values that are equal or nearly so, a pass for the least and the
+// greatest ordinal spares the passes over the bits that they have in common.
 use crate::Percentile;
 ghost use mathlib.Core.Path.{_≡_};
 ghost use mathlib.Core.Bool.{true};
@@ -31,7 +31,7 @@ struct Place {
     count: u64,
 }
 
-// The ordinals that begin with a prefix, with so many bits after it.
+// The ordinals that begin with a prefix, before their last `shift` bits.
 struct Cell {
     shift: u64,
     prefix: u64,
@@ -158,6 +158,7 @@ fn find(v: &[f64], s: u64, p: u64) -> u64
     0
 }
 
+// m, or k if it is inside and less.
 fn lower(m: u64, k: u64, inside: bool) -> u64
     ensures { λ r. ⌜ (r ≤ m) × (inside ≡ true → r ≤ k) ⌝ }
 {
@@ -167,6 +168,7 @@ fn lower(m: u64, k: u64, inside: bool) -> u64
     if k < m { k } else { m }
 }
 
+// m, or k if it is inside and more.
 fn higher(m: u64, k: u64, inside: bool) -> u64
     ensures { λ r. ⌜ (m ≤ r) × (inside ≡ true → k ≤ r) ⌝ }
 {
@@ -176,8 +178,8 @@ fn higher(m: u64, k: u64, inside: bool) -> u64
     if m < k { k } else { m }
 }
 
-// The least and the greatest of the ordinals that begin with p, with t + 1 bits after it. All 64 bits are these with
-// t = 63, so there are two shifts: none by 64. No branches but flags, since the data decide.
+// The least and the greatest of the ordinals that begin with p, before their last t + 1 bits. Two shifts, since none
+// may be by 64: with t = 63 and p = 0 they are all the ordinals.
 fn ends(v: &[f64], t: u64, p: u64) -> Bounds
     requires { ⌜ t < 64 ⌝ }
     ensures { λ r. ⌜ Between (now (v .entry)) (2 ^ (t + 1)) p (length (now (v .entry))) (r .least) (r .greatest) ⌝ }
@@ -211,7 +213,7 @@ fn shared(a: u64, b: u64) -> Cell
     }
 }
 
-// The smallest cell with all the ordinals of a cell.
+// The smallest cell with all the ordinals of a cell. If they differ in its first bit, that is the cell itself.
 fn narrow(v: &[f64], s: u64, p: u64) -> Cell
     requires { ⌜ 0 < s ⌝ }
     requires { ⌜ s ≤ 64 ⌝ }
@@ -244,7 +246,7 @@ fn narrow_if(worth: bool, v: &[f64], s: u64, p: u64) -> Cell
     }
 }
 
-// A guess that costs nothing: three values that begin alike let expect that all do.
+// A guess that costs next to nothing: where three values begin alike, all may. Nothing rests on it but the time.
 fn alike(v: &[f64]) -> bool
     requires { ⌜ 0 < length (now v) ⌝ }
 {
@@ -261,9 +263,9 @@ fn smaller(a: u64, b: u64) -> u64
 }
 
 // The ordinal at a rank, in digits of so many bits from the top. Most lists do not need all of them: where only one
-// value begins with the digits so far, it is the one. Where many begin with them even behind the exponent, as with
-// equal values, the digits that these have in common are skipped.
-fn by_digits(v: &[f64], rank: u64, bits: u64, worth: bool) -> u64
+// value begins with the digits so far, it is the one. Where a quarter of the values begins with digits that reach
+// behind the exponent, or where all are expected to be nearly equal, the bits that these have in common are skipped.
+fn by_digits(v: &[f64], rank: u64, bits: u64, equal: bool) -> u64
     requires { ⌜ length (now v) ≤ 2097152 ⌝ }
     requires { ⌜ rank < length (now v) ⌝ }
     requires { ⌜ 0 < bits ⌝ }
@@ -271,7 +273,7 @@ fn by_digits(v: &[f64], rank: u64, bits: u64, worth: bool) -> u64
     ensures { λ r. ⌜ Selected (now (v .entry)) rank r ⌝ }
 {
     let many = (v.len() / 4) as u64;
-    let all = narrow_if(worth, v, 64, 0);
+    let all = narrow_if(equal, v, 64, 0);
     let mut s = all.shift;
     let mut k = all.prefix;
     let mut left = rank;
@@ -291,17 +293,17 @@ fn by_digits(v: &[f64], rank: u64, bits: u64, worth: bool) -> u64
     k
 }
 
-// The ordinal at a rank. For a short list the histogram costs more than the pass, so its digits are short, and a pass
-// that saves one is always worth it.
+// The ordinal at a rank. For a short list the histogram costs more than the pass, so its digits are short.
 fn select(v: &[f64], rank: u64) -> u64
     requires { ⌜ length (now v) ≤ 2097152 ⌝ }
     requires { ⌜ rank < length (now v) ⌝ }
     ensures { λ r. ⌜ Selected (now (v .entry)) rank r ⌝ }
 {
+    let equal = alike(v);
     if v.len() < 512 {
-        return by_digits(v, rank, 8, true);
+        return by_digits(v, rank, 8, equal);
     }
-    by_digits(v, rank, 11, alike(v))
+    by_digits(v, rank, 11, equal)
 }
 
 // Where in the sorted list the p-th part of it ends: round((count - 1) * p), and at most count - 1.

@@ -17,10 +17,10 @@ use Rattle.rank.proofs.select.by_digits.Statement.{statement}
 use Rattle.rank.proofs.select.by_digits.Tie as tie
 
 abbrev Inv-loop : tie.InvT-loop
-Inv-loop v rank bits worth many s₀ k₀ left₀ s k left = (s ≤ 64) × RankIn v (2 ^ s) rank k left
+Inv-loop v rank bits equal many s₀ k₀ left₀ s k left = (s ≤ 64) × RankIn v (2 ^ s) rank k left
 
 abbrev μ-loop : tie.MeasureT-loop
-μ-loop v rank bits worth many s₀ k₀ left₀ s k left = s
+μ-loop v rank bits equal many s₀ k₀ left₀ s k left = s
 
 -- at the start
 module _ (c : tie.After-shared-slice-known Inv-loop μ-loop) where
