@@ -99,6 +99,11 @@ unfolding cSum
 cSum-cong f g a zero h = refl
 cSum-cong f g a (suc n) h = rw (cSum-cong f g a n (λ k b. h k (omega arith)), h (a + n) (omega arith))
 
+pub zFill-cong : (l : List Float) (at : ℕ) (f g : ℕ → Complex) (n : ℕ) → ((k : ℕ) → k < n → f k ≡ g k) → zFill l at f n ≡ zFill l at g n
+unfolding zFill
+zFill-cong l at f g zero h = refl
+zFill-cong l at f g (suc n) h = rw (zFill-cong l at f g n (λ k b. h k (omega arith)), h n (omega arith))
+
 -- what lies below a row of floats is as it was
 pub zAt-fill-below : (l : List Float) (at : ℕ) (f : ℕ → Float) (n k : ℕ) → 2 * k + 1 < at → zAt (fill l at f n) k ≡ zAt l k
 zAt-fill-below l at f n k h =
