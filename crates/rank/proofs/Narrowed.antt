@@ -12,7 +12,7 @@ use lib.Pow.{shr-shr, shr-mono}
 use lib.ListN.{length}
 use lib.Ieee.{Float}
 use Rattle.lists.proofs.Count.{count-cong, count-some}
-use Rattle.rank.specs.Inner.{ordinalAt, cell, below, Between, Narrowed, RankIn}
+use Rattle.rank.specs.Inner.{ordinalAt, cell, below, Between, SameOrdinals, RankIn}
 
 -- ---- the ends, ordinal by ordinal
 pub between-none : (l : List Float) (w v lo hi : ℕ) → Between l w v 0 lo hi
@@ -86,7 +86,7 @@ module _ {l : List Float} {s p t q lo hi : ℕ} (b : Between l (2 ^ s) p (length
   one : (i : ℕ) → i < length l → ordinalAt l i / 2 ^ t / 2 ^ (s - t) ≡ q / 2 ^ (s - t) → ordinalAt l i / 2 ^ t ≡ q
   one i g e = begins i g (sym (coarser (ordinalAt l i)) ∙ e ∙ prefix)
 
-  pub narrowed : Narrowed l s p t q
+  pub narrowed : SameOrdinals l s p t q
   unfolding cell below
   narrowed = record {
     shorter = omega arith;
@@ -99,8 +99,8 @@ module _ {l : List Float} {s p t q lo hi : ℕ} (b : Between l (2 ^ s) p (length
   }
 
 -- the cell itself
-pub narrowed-not : (l : List Float) (s p : ℕ) → Narrowed l s p s p
+pub narrowed-not : (l : List Float) (s p : ℕ) → SameOrdinals l s p s p
 narrowed-not l s p = record { shorter = le-refl s; under = refl; inside = refl }
 
-pub rank-narrowed : {l : List Float} {s p t q rank left : ℕ} → Narrowed l s p t q → RankIn l (2 ^ s) rank p left → RankIn l (2 ^ t) rank q left
+pub rank-narrowed : {l : List Float} {s p t q rank left : ℕ} → SameOrdinals l s p t q → RankIn l (2 ^ s) rank p left → RankIn l (2 ^ t) rank q left
 rank-narrowed n r = record { under = rw (n .under) (r .under); inside = rw (n .inside) (r .inside) }

@@ -72,7 +72,7 @@ pub record Between (l : List Float) (w v n lo hi : ℕ) : Type 0 where
   pub to : (i : ℕ) → i < n → ordinalAt l i / w ≡ v → ordinalAt l i ≤ hi
 
 -- the cell q of width 2^t has all the ordinals of the cell p of width 2^s, and none besides
-pub record Narrowed (l : List Float) (s p t q : ℕ) : Type 0 where
+pub record SameOrdinals (l : List Float) (s p t q : ℕ) : Type 0 where
   pub shorter : t ≤ s
   pub under : below (ordinalAt l) (2 ^ t) q (length l) ≡ below (ordinalAt l) (2 ^ s) p (length l)
   pub inside : cell (ordinalAt l) (2 ^ t) q (length l) ≡ cell (ordinalAt l) (2 ^ s) p (length l)

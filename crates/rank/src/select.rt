@@ -20,7 +20,7 @@ ghost use Rattle.rank.specs.Inner.{
   NextDigit,
   OrdinalIn,
   Between,
-  Narrowed,
+  SameOrdinals,
   Selected,
 };
 
@@ -218,7 +218,7 @@ fn narrow(v: &[f64], s: u64, p: u64) -> Cell
     requires { ⌜ 0 < s ⌝ }
     requires { ⌜ s ≤ 64 ⌝ }
     requires { ⌜ 0 < cell (ordinalAt (now v)) (2 ^ s) p (length (now v)) ⌝ }
-    ensures { λ r. ⌜ Narrowed (now (v .entry)) s p (r .shift) (r .prefix) ⌝ }
+    ensures { λ r. ⌜ SameOrdinals (now (v .entry)) s p (r .shift) (r .prefix) ⌝ }
 {
     let e = ends(v, s - 1, p);
     let c = shared(e.least, e.greatest);
@@ -235,7 +235,7 @@ fn narrow(v: &[f64], s: u64, p: u64) -> Cell
 fn narrow_if(worth: bool, v: &[f64], s: u64, p: u64) -> Cell
     requires { ⌜ s ≤ 64 ⌝ }
     requires { ⌜ 0 < cell (ordinalAt (now v)) (2 ^ s) p (length (now v)) ⌝ }
-    ensures { λ r. ⌜ Narrowed (now (v .entry)) s p (r .shift) (r .prefix) ⌝ }
+    ensures { λ r. ⌜ SameOrdinals (now (v .entry)) s p (r .shift) (r .prefix) ⌝ }
 {
     if worth && 0 < s {
         return narrow(v, s, p);

@@ -25,6 +25,7 @@ pub fn rotor(cyc: f64, k: usize, sine: &[u64; 1025]) -> Complex
     }
 }
 
+// Sample k, widened.
 fn sample(iq: &[f32], k: usize) -> Complex
     requires { ⌜ Iq (now iq) ⌝ }
     requires { ⌜ 2 * k + 1 < length (now iq) ⌝ }
