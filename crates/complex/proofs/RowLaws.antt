@@ -103,6 +103,11 @@ cSum-moved f g a b (suc n) h = rw (cSum-moved f g a b n (λ i l. h i (omega arit
 pub cSum-cong : (f g : ℕ → Complex) (a n : ℕ) → ((k : ℕ) → k < a + n → f k ≡ g k) → cSum f a n ≡ cSum g a n
 cSum-cong f g a n h = cSum-moved f g a a n (λ i l. h (a + i) (omega arith))
 
+pub zFill-cong : (l : List Float) (at : ℕ) (f g : ℕ → Complex) (n : ℕ) → ((k : ℕ) → k < n → f k ≡ g k) → zFill l at f n ≡ zFill l at g n
+unfolding zFill
+zFill-cong l at f g zero h = refl
+zFill-cong l at f g (suc n) h = rw (zFill-cong l at f g n (λ k b. h k (omega arith)), h n (omega arith))
+
 -- what lies below a row of floats is as it was
 pub zAt-fill-below : (l : List Float) (at : ℕ) (f : ℕ → Float) (n k : ℕ) → 2 * k + 1 < at → zAt (fill l at f n) k ≡ zAt l k
 zAt-fill-below l at f n k h =

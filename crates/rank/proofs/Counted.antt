@@ -5,7 +5,7 @@ use mathlib.Core.Logic.{inl, inr}
 use mathlib.Core.Bool.{Bool, true, false}
 use mathlib.Core.List.{List}
 use Prim.Native.Nat.{ℕ, zero, suc, _+_, _-_, _*_, _/_, _%_, _^_, _≤_, _<_, zero-le}
-use native.Mathlib.Nat.{lt-irrefl, suc-mul, mul-le-mul-right, le-add-right, lt-div-mul-add, le-refl, le-of-lt, le-of-suc-le-suc, lt-of-le-of-lt, lt-of-lt-of-le, eq-or-lt-of-le, add-mul, one-mul, mod-eq-of-lt, mod-eq-sub-div-mul, div-eq-of-lt, div-add-mod', div-mul-le-self, div-le-self, add-zero, add-assoc, div-one, div-div-eq-div-mul, div-lt-iff-lt-mul}
+use native.Mathlib.Nat.{le-add-right, lt-div-mul-add, le-refl, le-of-lt, le-of-suc-le-suc, lt-of-le-of-lt, lt-of-lt-of-le, eq-or-lt-of-le, add-mul, one-mul, mod-eq-of-lt, mod-eq-sub-div-mul, div-eq-of-lt, div-add-mod', div-mul-le-self, div-le-self, add-zero, add-assoc, div-one, div-div-eq-div-mul, div-lt-iff-lt-mul}
 use native.Mathlib.Numerals.{add-one}
 use native.Mathlib.Decide.{decLt}
 use native.Mathlib.Omega.{arith}
@@ -19,7 +19,7 @@ use lib.Ieee.{Float}
 use mir.Val.{boolByte}
 use Rattle.lists.specs.Count.{countTo}
 use Rattle.lists.proofs.Count.{bit, count-cong, count-le, count-most, count-apart, count-some}
-use Rattle.rank.specs.Inner.{ordinalAt, cell, below, Histogram, sumTo, Passed, NextDigit, RankIn, OrdinalIn, Layout}
+use Rattle.rank.specs.Inner.{ordinalAt, cell, below, Histogram, sumTo, Passed, NextDigit, RankIn, OrdinalIn}
 
 -- ---- counting
 byte-bit : (b : Bool) → boolByte b ≡ bit b
@@ -256,18 +256,8 @@ within-one {l} {w} {rank} {v} {left} {k} W h o f =
         (omega (arith, div-one x, lt-div-mul-add {a = k} {b = w} W, ap (λ (z : ℕ). z * w) (f .inside), add-mul v 1 w, one-mul w))
 
 -- ---- the digits' places
-pub place-lt : {digits bits : ℕ} (j : ℕ) → Layout digits bits → 0 < j → j ≤ digits → (j - 1) * bits < 64
-place-lt {digits} {bits} zero y p h = absurd (lt-irrefl 0 p)
-place-lt {digits} {bits} (suc j) y p h = rw (suc-sub j) (omega (arith, y .first, mul-le-mul-right bits h, suc-mul j bits))
-  where
-    suc-sub : (j : ℕ) → suc j - 1 ≡ j
-    suc-sub j = omega arith
-
-pub place-pow : (j bits : ℕ) → 0 < j → 2 ^ (j * bits) ≡ 2 ^ ((j - 1) * bits) * 2 ^ bits
-place-pow j bits p = let e : j * bits ≡ (j - 1) * bits + bits = ap (λ (i : ℕ). i * bits) (omega arith) ∙ add-mul (j - 1) 1 bits ∙ rw (one-mul bits) in ap (λ (i : ℕ). 2 ^ i) e ∙ pow-add 2 ((j - 1) * bits) bits
-
-pub place-first : {digits bits : ℕ} → Layout digits bits → 2 ^ 64 ≤ 2 ^ (digits * bits)
-place-first {digits} {bits} y = pow-mono {i = 64} {j = digits * bits} (y .cover)
+pub place-pow : (s b : ℕ) → b ≤ s → 2 ^ s ≡ 2 ^ (s - b) * 2 ^ b
+place-pow s b h = let e : s ≡ s - b + b = omega arith in ap (λ (i : ℕ). 2 ^ i) e ∙ pow-add 2 (s - b) b
 
 -- a prefix with one digit more, as the code makes it
 pub prefix : (k m d : ℕ) → k * m + d < 2 ^ 64 → k * m % 2 ^ 64 + d ≡ k * m + d

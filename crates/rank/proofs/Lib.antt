@@ -5,6 +5,8 @@
 --             `ordinal-injective`
 -- Counted     cells of ordinals and their histogram: `below-next`, `below-split`, `cell-split`, `histogram-turn`,
 --             `histogram-sum`; one digit more: `next-digit`, `within-turn`; the one that is left: `within-one`
+-- Narrowed    a cell narrowed to the ends of its ordinals has the same ordinals: `narrowed`; a rank in it stays:
+--             `rank-narrowed`; the ends, ordinal by ordinal: `between-none`, `between-turn`
 -- Sorted      the value at a rank of the sorted list is the one with so many before it: `sorted-counts`,
 --             `counts-unique`, `percentile-counts`, `percentile-none`; what holds of each number: `Every`, `every-at`,
 --             `sorted-every`; `held`: each is an f64; `rank-lt`
@@ -13,6 +15,7 @@
 pub mod Patterns
 pub mod Ordinals
 pub mod Counted
+pub mod Narrowed
 pub mod Sorted
 pub mod Among
 pub mod Examples

@@ -61,16 +61,21 @@ pub record NextDigit (l : List Float) (w m p rank digit left count : ℕ) : Type
   pub inside : left < count
   pub all : count ≡ cell (ordinalAt l) w (p * m + digit) (length l)
 
--- digits of so many bits that cover 64 bits, all but the first of them within these
-pub record Layout (digits bits : ℕ) : Type 0 where
-  pub most : bits ≤ 11
-  pub cover : 64 ≤ digits * bits
-  pub first : digits * bits < 64 + bits
-
 -- the rank lies in the cell v of width w, and is `left` counted from the cell's first
 pub record RankIn (l : List Float) (w rank v left : ℕ) : Type 0 where
   pub under : below (ordinalAt l) w v (length l) + left ≡ rank
   pub inside : left < cell (ordinalAt l) w v (length l)
+
+-- the first n ordinals that lie in the cell v of width w are from lo to hi
+pub record Between (l : List Float) (w v n lo hi : ℕ) : Type 0 where
+  pub from : (i : ℕ) → i < n → ordinalAt l i / w ≡ v → lo ≤ ordinalAt l i
+  pub to : (i : ℕ) → i < n → ordinalAt l i / w ≡ v → ordinalAt l i ≤ hi
+
+-- the cell q of width 2^t has all the ordinals of the cell p of width 2^s, and none besides
+pub record SameOrdinals (l : List Float) (s p t q : ℕ) : Type 0 where
+  pub shorter : t ≤ s
+  pub under : below (ordinalAt l) (2 ^ t) q (length l) ≡ below (ordinalAt l) (2 ^ s) p (length l)
+  pub inside : cell (ordinalAt l) (2 ^ t) q (length l) ≡ cell (ordinalAt l) (2 ^ s) p (length l)
 
 -- one of the ordinals, and it lies in the cell v of width w
 pub record OrdinalIn (l : List Float) (w v k : ℕ) : Type 0 where

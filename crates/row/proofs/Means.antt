@@ -13,6 +13,7 @@ use Rattle.complex.specs.Rows.{cSum}
 use Rattle.complex.proofs.RowLaws.{cSum-done}
 use Rattle.row.specs.Window.{samples, blocks}
 use Rattle.row.specs.Blocks.{derot, meanFrom}
+use Rattle.row.specs.Inner.{times, meanTimes}
 
 -- a recording of at most 2^20 samples has at most so many blocks
 pub blocks-short : (iq : List Float) (len : ℕ) → length iq ≤ 2097152 → blocks iq len ≤ 1048576
@@ -26,3 +27,8 @@ pub mean-done : (iq : List Float) (cyc : Float) (a len k : ℕ) (acc r : Complex
     → acc ≡ cSum (derot iq cyc) a (k - a) → k ≤ a + len → a + len ≤ k → d ≡ of len → r ≡ cDiv acc d → r ≡ meanFrom iq cyc a len
 unfolding meanFrom
 mean-done iq cyc a len k acc r d p h g q e = rw (e, q, cSum-done (derot iq cyc) a len k acc p h g)
+
+pub mean-times-done : (iq : List Float) (z : Complex) (a len k : ℕ) (acc r : Complex) (d : Float)
+    → acc ≡ cSum (times iq z) a (k - a) → k ≤ a + len → a + len ≤ k → d ≡ of len → r ≡ cDiv acc d → r ≡ meanTimes iq z a len
+unfolding meanTimes
+mean-times-done iq z a len k acc r d p h g q e = rw (e, q, cSum-done (times iq z) a len k acc p h g)

@@ -37,11 +37,6 @@ zAt-zFill-from l at f (suc n) k h g =
     (λ b. zAt-zSet-other (zFill l at f n) (at + n) (at + k) (f n) (omega arith) ∙ zAt-zFill-from l at f n k b (omega arith))
     (eq-or-lt-of-le (le-of-suc-le-suc h))
 
-pub zFill-cong : (l : List Float) (at : ℕ) (f g : ℕ → Complex) (n : ℕ) → ((k : ℕ) → k < n → f k ≡ g k) → zFill l at f n ≡ zFill l at g n
-unfolding zFill
-zFill-cong l at f g zero h = refl
-zFill-cong l at f g (suc n) h = rw (zFill-cong l at f g n (λ k b. h k (omega arith)), h n (omega arith))
-
 -- ---- a part that is lent: the k numbers from number a on
 
 module _ {A : Type 0} where

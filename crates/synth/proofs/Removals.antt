@@ -9,7 +9,7 @@ use lib.Ieee.{Float}
 use borrow.Rule.Slice.PartMut.{midOf, putMid}
 use Rattle.complex.specs.declared.value.Complex.{Complex}
 use Rattle.complex.specs.Rows.{zAt, zSet, zFill}
-use Rattle.complex.proofs.RowLaws.{zFill-none, zFill-turn0, length-zFill}
+use Rattle.complex.proofs.RowLaws.{zFill-none, zFill-turn0, zFill-cong, length-zFill}
 use Rattle.lists.specs.Firsts.{firsts}
 use Rattle.row.specs.Window.{samples}
 use Rattle.fits.specs.declared.fit.ElementFit.{ElementFit}
@@ -19,7 +19,7 @@ use Rattle.synth.specs.Span.{spanOf}
 use Rattle.synth.specs.Removal.{lessSingle, sentAt, takenAt, takenBy, subtracted}
 use Rattle.synth.specs.Inner.{takenPart}
 use Rattle.synth.proofs.Spans.{span-ordered, span-inside}
-use Rattle.synth.proofs.Parts.{zAt-zFill-above, zFill-cong, part-length, part-sample, part-filled}
+use Rattle.synth.proofs.Parts.{zAt-zFill-above, part-length, part-sample, part-filled}
 
 -- ---- one fit over a part: before the loop, a turn of it, and after it
 module _ (fs cyc : Float) (f : ElementFit) (lo : ℕ) (part : List Float) where

@@ -7,6 +7,7 @@ use mathlib.Core.List.{List, [], _∷_, map}
 use lib.Ieee.{Float}
 use Rattle.complex.specs.Value.{cMul}
 use Rattle.complex.specs.Rows.{zAt}
+use Rattle.complex.proofs.RowLaws.{zFill-cong}
 use Rattle.row.specs.Window.{samples}
 use Rattle.row.specs.Blocks.{rotorOf}
 use Rattle.fits.specs.declared.fit.ElementFit.{ElementFit}
@@ -14,7 +15,6 @@ use Rattle.synth.specs.Span.{spanOf}
 use Rattle.synth.specs.Baseband.{envelopeOf, synthAt}
 use Rattle.synth.specs.Removal.{lessSingle, sentAt, takenBy, subtracted}
 use Rattle.synth.specs.RustFields.{rustOf}
-use Rattle.synth.proofs.Parts.{zFill-cong}
 
 module _ (fs : Float) (f g : ElementFit) (same : rustOf f ≡ rustOf g) where
   pub span-alike : (n : ℕ) → spanOf fs n f ≡ spanOf fs n g

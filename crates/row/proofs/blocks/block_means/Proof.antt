@@ -1,9 +1,10 @@
 -- The invariant: b means are stored.
 use Prim.Native.Nat.{_≤_, _-_}
-use mathlib.Core.Path.{_≡_}
+use mathlib.Core.Path.{_≡_, _∙_}
 use lib.ListN.{length}
 use Rattle.complex.specs.Rows.{zFill}
 use Rattle.row.specs.Blocks.{blockMean}
+use Rattle.row.proofs.Unturned.{means-still}
 use Rattle.row.proofs.Laws.{laws}
 use Rattle.row.proofs.blocks.block_means.Statement.{statement}
 use Rattle.row.proofs.blocks.block_means.Tie as tie
@@ -14,12 +15,25 @@ Inv-loop iq cyc len out₀ sine n b₀ out b = (b ≤ n) × (length out ≡ leng
 abbrev μ-loop : tie.MeasureT-loop
 μ-loop iq cyc len out₀ sine n b₀ out b = n - b
 
+returns : tie.Need-returns Inv-loop μ-loop
+returns c =
+    let a = c .before .before .before .before .before .before .before .before .args in
+    let p = c .before .before .before .before .before .before .before .before .pre in (
+      c .before .before .means-times .ensures .0,
+      c .before .before .means-times .ensures .1
+          ∙ rw (c .before .before .before .before .still-turn .ensures) (means-still (a .iq .now) (a .out .now) (a .cyc) (a .len) (c .before .before .before .before .before .if1 .taken) (p .0)),
+    )
+
 pub block-means-spec : {M : Type 1} → statement M
 block-means-spec =
     tie.close
     (tie.spec
     Inv-loop
     μ-loop
+    (λ c κs. search laws)
+    (λ c κs. search laws)
+    (λ c. search laws)
+    returns
     (λ c. search laws)
     (λ c. search laws)
     (λ c κs. search laws)
