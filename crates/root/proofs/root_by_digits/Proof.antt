@@ -5,10 +5,10 @@ use mathlib.Core.Path.{_≡_, refl, sym, ap, _∙_, subst}
 use native.Mathlib.Nat.{lt-of-le-of-lt, div-one}
 use native.Mathlib.Omega.{arith}
 use lib.Pow.{shr-le, shr-shr}
 use Rattle.float.specs.Inner.{Rooted}
 use Rattle.float.proofs.Squares.{digit-one, digit-zero, root-small}
-use Rattle.float.proofs.root.root_by_digits.Statement.{statement}
-use Rattle.float.proofs.root.root_by_digits.Tie as tie
+use Rattle.root.proofs.root_by_digits.Statement.{statement}
+use Rattle.root.proofs.root_by_digits.Tie as tie
 
 abbrev Inv-loop : tie.InvT-loop
 Inv-loop h q₀ r₀ i₀ q r i = Rooted (h / 2 ^ i) q r × (i ≤ 54) × (i % 2 ≡ 0)

@@ -9,10 +9,10 @@ use lib.Dec.{T}
 use lib.Ieee.{Float, nan, binary64, fits, div, isNan, ofBits, toBits}
 use lib.Ieee.Bits.{ofBits-toBits, toBits-lt}
 use lib.Ieee.Compare.{differs-from-itself}
 use Rattle.float.specs.Root.{sqrtOf}
 use Rattle.float.proofs.Value.{no-nan, negative-bits, above-inf}
-use Rattle.float.proofs.root.sqrt.Statement.{statement}
-use Rattle.float.proofs.root.sqrt.Tie as tie
+use Rattle.root.proofs.sqrt.Statement.{statement}
+use Rattle.root.proofs.sqrt.Tie as tie
 
 held : (c : tie.Start) → T (fits binary64 (c .args .x))
 held c = subst T (sym (c .good .0 .1)) tt

@@ -3,9 +3,9 @@ use Prim.Native.Nat.{ℕ, _+_, _*_, _%_, _^_, _≤_, _<_}
 use native.Mathlib.Omega.{arith}
 use native.Mathlib.Nat.{mul-le-mul-left}
 use borrow.Author.Needs.{needs}
 use Rattle.float.proofs.Value.{Result, result, counted-pos, no-nan-bits}
-use Rattle.float.proofs.root.sqrt_bits.Statement.{statement}
-use Rattle.float.proofs.root.sqrt_bits.Tie as tie
+use Rattle.root.proofs.sqrt_bits.Statement.{statement}
+use Rattle.root.proofs.sqrt_bits.Tie as tie
 
 -- m, doubled or not
 doubled : (m o : ℕ) → o < 2 → m < 2 ^ 53 → 2 ^ 52 ≤ m → (2 ^ 52 ≤ m * (1 + o)) × (m * (1 + o) < 2 ^ 54)

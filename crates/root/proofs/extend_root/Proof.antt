@@ -6,10 +6,10 @@ use native.Mathlib.Omega.{arith}
 use borrow.Author.Needs.{needs}
 use lib.Dec.{T, ltb, ltb→lt, nltb→le}
 use mir.Val.{boolByte}
 use Rattle.float.specs.Inner.{Rooted}
 use Rattle.float.proofs.Squares.{Guess, guess, square-pred}
-use Rattle.float.proofs.root.extend_root.Statement.{statement}
-use Rattle.float.proofs.root.extend_root.Tie as tie
+use Rattle.root.proofs.extend_root.Statement.{statement}
+use Rattle.root.proofs.extend_root.Tie as tie
 
 at : (c : tie.Start) → Guess (c .args .root) (c .args .rest) (c .args .rest * 0x400_0000 / (c .args .root * 2)) (c .args .rest * 0x400_0000 % (c .args .root * 2))
 at c = guess (c .args .root) (c .args .rest) (c .pre .0) (c .pre .1 .1)

@@ -1,9 +1,9 @@
 -- `float::root::guess_root` meets its contract. Assumes nothing.
 use native.Mathlib.Omega.{arith}
 use borrow.Author.Needs.{needs}
 use Rattle.float.proofs.Value.{no-nan-bits, lt-no-nan}
-use Rattle.float.proofs.root.guess_root.Statement.{statement}
-use Rattle.float.proofs.root.guess_root.Tie as tie
+use Rattle.root.proofs.guess_root.Statement.{statement}
+use Rattle.root.proofs.guess_root.Tie as tie
 
 float-from-bits-f : tie.Need-float-from-bits-f
 float-from-bits-f c = no-nan-bits _ (omega arith)

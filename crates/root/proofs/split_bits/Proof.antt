@@ -8,9 +8,9 @@ use borrow.Author.Needs.{needs}
 use borrow.Author.Tests.{lt-ltb, le-ltb}
 use lib.Pow.{pow-add, pow-mono, shl-lt, shl-exact}
 use lib.Count.{leadingZeros, leading-le, leading-top}
 use Rattle.float.specs.Inner.{Scaled, counted}
-use Rattle.float.proofs.root.split_bits.Statement.{statement}
-use Rattle.float.proofs.root.split_bits.Tie as tie
+use Rattle.root.proofs.split_bits.Statement.{statement}
+use Rattle.root.proofs.split_bits.Tie as tie
 
 -- the place of the leading digit of a number of 52 bits: the zeros before it, and what it bounds
 top : (b : ℕ) → 0 < b → b < 2 ^ 52 → (j : ℕ) × (leadingZeros 64 b + suc j ≡ 64) × (2 ^ j ≤ b) × (b < 2 ^ suc j) × (j < 52)

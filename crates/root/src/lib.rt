@@ -1,13 +1,13 @@
 // The square root of an f64, rounded to nearest: the whole-number root of the scaled significand,
 // 27 digits one by one and 26 by one division, and then the rounding.
-use crate::whole::TWO_52;
+use float::TWO_52;
 ghost use mathlib.Core.Path.{_≡_};
 ghost use mathlib.Core.Bool.{not};
 ghost use Prim.Native.Nat.{_+_, _*_, _^_, _<_, _≤_};
 ghost use lib.Dec.{T};
 ghost use lib.Ieee.{binary64, ofBits, nanBits};
 ghost use Rattle.float.specs.Root.{sqrtOf};
 ghost use Rattle.float.specs.Inner.{NearRoot, Rooted, Scaled, counted};
 
 // 2^53: the numbers from 2^52 up to it are the whole numbers of 53 digits.
 const TWO_53: f64 = 9007199254740992.0;

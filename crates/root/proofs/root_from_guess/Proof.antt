@@ -3,10 +3,10 @@ use Prim.Native.Nat.{ℕ, _-_, _*_, _<_}
 use native.Mathlib.Nat.{le-of-lt, mul-le-mul}
 use native.Mathlib.Omega.{arith}
 use borrow.Author.Needs.{needs}
 use Rattle.float.specs.Inner.{Rooted}
 use Rattle.float.proofs.Squares.{square-pred}
-use Rattle.float.proofs.root.root_from_guess.Statement.{statement}
-use Rattle.float.proofs.root.root_from_guess.Tie as tie
+use Rattle.root.proofs.root_from_guess.Statement.{statement}
+use Rattle.root.proofs.root_from_guess.Tie as tie
 
 -- one less than a guess that is too large
 one-less : (h c : ℕ) → h < c * c → c * c - h < c * 2 → Rooted h (c - 1) (c * 2 - 1 - (c * c - h))

@@ -3,10 +3,10 @@ use Prim.Native.Nat.{ℕ, _*_, _^_}
 use mathlib.Core.Path.{subst}
 use native.Mathlib.Omega.{arith}
 use borrow.Author.Needs.{needs}
 use Rattle.float.specs.Inner.{Rooted}
 use Rattle.float.proofs.Squares.{root-small, root-large, near-down, near-up}
-use Rattle.float.proofs.root.nearest_root.Statement.{statement}
-use Rattle.float.proofs.root.nearest_root.Tie as tie
+use Rattle.root.proofs.nearest_root.Statement.{statement}
+use Rattle.root.proofs.nearest_root.Tie as tie
 
 extend-root-requires : tie.Need-extend-root-requires
 extend-root-requires c κs =
