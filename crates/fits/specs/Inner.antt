@@ -6,16 +6,10 @@ use lib.Dec.{T}
 use lib.ListN.{set}
 use lib.Ieee.{Float}
 use Rattle.float.specs.Size.{sized}
-use Rattle.complex.specs.declared.value.Complex.{Complex}
-use Rattle.complex.specs.Value.{cNew, cMul, cNorm, cPolar}
-use Rattle.complex.specs.Rows.{zAt}
-use Rattle.row.specs.Blocks.{derot}
 use Rattle.elements.specs.declared.element.KeyedElement.{KeyedElement}
 use Rattle.elements.specs.Element.{ELEMENT, elementAt}
 use Rattle.elements.specs.Inner.{putElementFrom, storedBy}
 use Rattle.fits.specs.declared.fit.ElementFit.{ElementFit}
-use Rattle.fits.specs.Slope.{phaseOf}
-use Rattle.fits.specs.Gain.{tiltOf}
 use Rattle.fits.specs.List.{FIT}
 
 -- ---- what is required of the elements of a list: their times are finite, and of size at most 2^200
@@ -44,20 +38,3 @@ fitsFrom l p fs = storedBy FIT putFitFrom l p fs
 
 abbrev pub storedFits : List Float → List ElementFit → List Float
 storedFits l fs = fitsFrom l 0 fs
-
--- ---- the points of the slope fit, in the work slice
-
--- a block's phase, and its weight: how large its mean is
-abbrev pub pointOf : (ℕ → Complex) → ℕ → Complex
-pointOf z b = cNew (phaseOf z b) (cNorm (z b))
-
--- point b as a list holds it, a pair where a row of complex numbers has its number b
-abbrev pub phaseIn : List Float → ℕ → Float
-phaseIn l b = zAt l b .re
-
-abbrev pub weightIn : List Float → ℕ → Float
-weightIn l b = zAt l b .im
-
--- ---- the term of sample k of the gain, with the weight w
-abbrev pub leveledBy : List Float → Float → Float → Float → ℕ → Float → Complex
-leveledBy iq cyc slope ref k w = cMul (derot iq cyc k) (cPolar w (tiltOf slope ref k))

@@ -1,0 +1,33 @@
+use native.Mathlib.Omega.{arith}
+use borrow.Author.Needs.{needs}
+use Rattle.interiors.specs.Slope.{slopeOf}
+use Rattle.interiors.proofs.Laws.{laws}
+use Rattle.interiors.proofs.Slopes.{slope-none, slope-stored, blocks-within, block-short}
+use Rattle.interiors.proofs.slope.phase_slope.Statement.{statement}
+use Rattle.interiors.proofs.slope.phase_slope.Tie as tie
+
+returns : tie.Need-returns
+returns c = search (laws, slope-none)
+
+unwrap-phase-requires : tie.Need-unwrap-phase-requires
+unwrap-phase-requires c κs =
+    let s = c .before .before .before .before in
+    let all = blocks-within (s .args .len) (s .args .block) in
+    (search laws, (search laws, (omega arith, (omega arith, omega arith))))
+
+line-slope-requires : tie.Need-line-slope-requires
+line-slope-requires c κs =
+    let left = c .before .before .before .before .before in
+    let s = left .before .before .before in
+    let all = blocks-within (s .args .len) (s .args .block) in
+    let short = block-short (s .args .len) (s .args .block) (left .if1 .left) in
+    let few = s .pre .0 .short in
+    (omega arith, (omega arith, (omega arith, omega arith)))
+
+returns-2 : tie.Need-returns-2
+unfolding slopeOf
+returns-2 c = search (laws, slope-stored)
+
+pub phase-slope-spec : {M : Type 1} → statement M
+phase-slope-spec =
+    tie.close (tie.spec (λ c. search needs) returns unwrap-phase-requires line-slope-requires (λ c. search needs) returns-2)

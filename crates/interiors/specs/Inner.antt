@@ -1,0 +1,27 @@
+-- Not needed to read a public promise: what the functions behind a fit require and ensure. Definitions only.
+use Prim.Native.Nat.{ℕ}
+use mathlib.Core.List.{List}
+use lib.Ieee.{Float}
+use Rattle.complex.specs.declared.value.Complex.{Complex}
+use Rattle.complex.specs.Value.{cNew, cMul, cNorm, cPolar}
+use Rattle.complex.specs.Rows.{zAt}
+use Rattle.row.specs.Blocks.{derot}
+use Rattle.interiors.specs.Slope.{phaseOf}
+use Rattle.interiors.specs.Gain.{tiltOf}
+
+-- ---- the points of the slope fit, in the work slice
+
+-- a block's phase, and its weight: how large its mean is
+abbrev pub pointOf : (ℕ → Complex) → ℕ → Complex
+pointOf z b = cNew (phaseOf z b) (cNorm (z b))
+
+-- point b as a list holds it, a pair where a row of complex numbers has its number b
+abbrev pub phaseIn : List Float → ℕ → Float
+phaseIn l b = zAt l b .re
+
+abbrev pub weightIn : List Float → ℕ → Float
+weightIn l b = zAt l b .im
+
+-- ---- the term of sample k of the gain, with the weight w
+abbrev pub leveledBy : List Float → Float → Float → Float → ℕ → Float → Complex
+leveledBy iq cyc slope ref k w = cMul (derot iq cyc k) (cPolar w (tiltOf slope ref k))
