@@ -3,8 +3,8 @@ use Prim.Native.Nat.{_≤_, _-_, _/_}
 use mathlib.Core.Path.{_≡_}
 use lib.ListN.{length}
 use borrow.Author.Needs.{needs}
-use Rattle.replay.proofs.kept.list.Statement.{statement}
-use Rattle.replay.proofs.kept.list.Tie as tie
+use Rattle.stored.proofs.kept.list.Statement.{statement}
+use Rattle.stored.proofs.kept.list.Tie as tie
 
 abbrev Inv-loop : tie.InvT-loop
 Inv-loop body row₀ n i₀ row i = (i ≤ n) × (n ≤ length body / 8) × (n ≤ length row) × (length row ≡ length row₀)

@@ -1,8 +1,8 @@
 -- `replay::tally::all` is safe and ends. Assumes nothing.
 use Prim.Native.Nat.{_≤_, _-_}
 use borrow.Author.Needs.{needs}
-use Rattle.replay.proofs.tally.all.Statement.{statement}
-use Rattle.replay.proofs.tally.all.Tie as tie
+use Rattle.stored.proofs.tally.all.Statement.{statement}
+use Rattle.stored.proofs.tally.all.Tie as tie
 
 abbrev Inv-loop : tie.InvT-loop
 Inv-loop tally first total₀ k₀ total k = k ≤ 8

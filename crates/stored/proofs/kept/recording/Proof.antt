@@ -3,8 +3,8 @@ use Prim.Native.Nat.{_≤_, _-_}
 use mathlib.Core.Path.{_≡_}
 use lib.ListN.{length}
 use borrow.Author.Needs.{needs}
-use Rattle.replay.proofs.kept.recording.Statement.{statement}
-use Rattle.replay.proofs.kept.recording.Tie as tie
+use Rattle.stored.proofs.kept.recording.Statement.{statement}
+use Rattle.stored.proofs.kept.recording.Tie as tie
 
 abbrev Inv-loop : tie.InvT-loop
 Inv-loop body iq₀ scale n i₀ iq i = (i ≤ n) × (n ≤ length iq) × (length iq ≡ length iq₀)

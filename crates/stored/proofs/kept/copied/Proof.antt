@@ -3,8 +3,8 @@ use Prim.Native.Nat.{_≤_, _-_}
 use mathlib.Core.Path.{_≡_}
 use lib.ListN.{length}
 use borrow.Author.Needs.{needs}
-use Rattle.replay.proofs.kept.copied.Statement.{statement}
-use Rattle.replay.proofs.kept.copied.Tie as tie
+use Rattle.stored.proofs.kept.copied.Statement.{statement}
+use Rattle.stored.proofs.kept.copied.Tie as tie
 
 abbrev Inv-loop : tie.InvT-loop
 Inv-loop from to₀ n i₀ to i = (i ≤ n) × (n ≤ length from) × (n ≤ length to) × (length to ≡ length to₀)

@@ -1,18 +1,18 @@
--- `replay::equal::same_floats` is safe and ends. Assumes nothing.
+-- `replay::equal::same_figures` is safe and ends. Assumes nothing.
 use Prim.Native.Nat.{_≤_, _-_}
 use lib.ListN.{length}
 use borrow.Author.Needs.{needs}
-use Rattle.replay.proofs.equal.same_floats.Statement.{statement}
-use Rattle.replay.proofs.equal.same_floats.Tie as tie
+use Rattle.stored.proofs.equal.same_figures.Statement.{statement}
+use Rattle.stored.proofs.equal.same_figures.Tie as tie
 
 abbrev Inv-loop : tie.InvT-loop
-Inv-loop a b i₀ i-end i = (i ≤ i-end) × (i-end ≤ length a) × (i-end ≤ length b)
+Inv-loop figures stored i₀ i-end i = (i ≤ i-end) × (i-end ≤ length figures) × (i-end ≤ 28)
 
 abbrev μ-loop : tie.MeasureT-loop
-μ-loop a b i₀ i-end i = i-end - i
+μ-loop figures stored i₀ i-end i = i-end - i
 
-pub same-floats-spec : {M : Type 1} → statement M
-same-floats-spec =
+pub same-figures-spec : {M : Type 1} → statement M
+same-figures-spec =
     tie.close
     (tie.spec
     Inv-loop
@@ -22,7 +22,7 @@ same-floats-spec =
     (λ c. search needs)
     (λ c. search needs)
     (λ c. search needs)
-    (λ c. search needs)
+    (λ c κs. search needs)
     (λ c κs. search needs)
     (λ c. search needs)
     (λ c. search needs)

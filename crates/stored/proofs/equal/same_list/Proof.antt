@@ -1,8 +1,8 @@
 -- `replay::equal::same_list` is safe and ends. Assumes nothing.
 use Prim.Native.Nat.{_≤_, _-_}
 use borrow.Author.Needs.{needs}
-use Rattle.replay.proofs.equal.same_list.Statement.{statement}
-use Rattle.replay.proofs.equal.same_list.Tie as tie
+use Rattle.stored.proofs.equal.same_list.Statement.{statement}
+use Rattle.stored.proofs.equal.same_list.Tie as tie
 
 abbrev Inv-loop : tie.InvT-loop
 Inv-loop a b n i₀ i = i ≤ n

@@ -2,8 +2,8 @@
 use Prim.Native.Nat.{_≤_, _-_}
 use lib.ListN.{length}
 use borrow.Author.Needs.{needs}
-use Rattle.replay.proofs.equal.as_lent.Statement.{statement}
-use Rattle.replay.proofs.equal.as_lent.Tie as tie
+use Rattle.stored.proofs.equal.as_lent.Statement.{statement}
+use Rattle.stored.proofs.equal.as_lent.Tie as tie
 
 abbrev Inv-loop : tie.InvT-loop
 Inv-loop row from i₀ i-end i = i-end ≤ length row

@@ -1,8 +1,8 @@
 -- `replay::told::refusals` is safe and ends. Assumes nothing.
 use Prim.Native.Nat.{_≤_, _-_}
 use borrow.Author.Needs.{needs}
-use Rattle.replay.proofs.told.refusals.Statement.{statement}
-use Rattle.replay.proofs.told.refusals.Tie as tie
+use Rattle.stored.proofs.told.refusals.Statement.{statement}
+use Rattle.stored.proofs.told.refusals.Tie as tie
 
 abbrev Inv-loop : tie.InvT-loop
 Inv-loop tally no₀ t4 t5 no' = no' ≤ 8

@@ -1,9 +1,9 @@
 -- `replay::units::of_pattern` is safe and ends. Assumes nothing.
 use borrow.Author.Needs.{needs}
 use mathlib.Core.Logic.{⊎-elim}
-use Rattle.replay.proofs.Patterns.{is-number, is-infinity}
-use Rattle.replay.proofs.units.of_pattern.Statement.{statement}
-use Rattle.replay.proofs.units.of_pattern.Tie as tie
+use Rattle.stored.proofs.Patterns.{is-number, is-infinity}
+use Rattle.stored.proofs.units.of_pattern.Statement.{statement}
+use Rattle.stored.proofs.units.of_pattern.Tie as tie
 
 float-from-bits-result : tie.Need-float-from-bits-result
 float-from-bits-result c = ⊎-elim (λ w. search (needs, is-infinity)) (λ w. search (needs, is-number)) (c .if1 .came)

@@ -2,8 +2,8 @@
 use Prim.Native.Nat.{_≤_, _-_, _/_}
 use lib.ListN.{length}
 use borrow.Author.Needs.{needs}
-use Rattle.replay.proofs.equal.changed.Statement.{statement}
-use Rattle.replay.proofs.equal.changed.Tie as tie
+use Rattle.stored.proofs.equal.changed.Statement.{statement}
+use Rattle.stored.proofs.equal.changed.Tie as tie
 
 abbrev Inv-loop : tie.InvT-loop
 Inv-loop a b n sum₀ k₀ sum k = (k ≤ n) × (sum ≤ k) × (n ≤ length a / 2) × (n ≤ length b / 2)
