@@ -48,8 +48,8 @@ use Rattle.classes.specs.Classify.{timesOf, classOf, countsOf}
 use Rattle.classes.proofs.Counts.{blocks-counted}
 use Rattle.measure.specs.declared.residual.ResidualCheck.{ResidualCheck}
 use Rattle.measure.specs.declared.evidence.SecondCarrierEvidence.{SecondCarrierEvidence}
-use Rattle.measure.specs.Powers.{powersOf}
-use Rattle.measure.specs.Left.{residualMean}
+use Rattle.prepared.specs.Powers.{powersOf}
+use Rattle.prepared.specs.Left.{residualMean}
 use Rattle.measure.specs.Residual.{residualCheckOf}
 use Rattle.measure.specs.Evidence.{evidenceCheckOf}
 use Rattle.measure.specs.Hypothesis.{hypothesisOf}

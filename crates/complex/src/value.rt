@@ -76,7 +76,7 @@ impl Complex {
     pub fn norm(self) -> f64
         ensures { λ r. ⌜ r ≡ cNorm self ⌝ }
     {
-        float::sqrt(Complex::new(self.re, self.im).norm_sqr())
+        root::sqrt(Complex::new(self.re, self.im).norm_sqr())
     }
 
     pub fn arg(self) -> f64

@@ -26,19 +26,19 @@ use Rattle.elements.specs.declared.element.KeyedElement.{KeyedElement}
 use Rattle.constants.specs.Constants.{RISE_S, MIN_INTERIOR_S, SLOPE_BLOCK_S}
 use Rattle.lists.specs.Those.{those}
 use Rattle.elements.specs.Find.{elementsFound}
-use Rattle.fits.specs.declared.interior.Interior.the-variants.{Inside, Nothing}
-use Rattle.fits.specs.Interior.{loOf, hiOf, minLen, unfit, interiorOf, slopeBlock}
+use Rattle.interiors.specs.declared.interior.Interior.the-variants.{Inside, Nothing}
+use Rattle.interiors.specs.Interior.{loOf, hiOf, minLen, unfit, interiorOf, slopeBlock}
 use Rattle.fits.specs.declared.fit.ElementFit.{ElementFit}
 use Rattle.fits.specs.declared.fit.Fit.the-variants.{Fitted, Skipped}
 use Rattle.lists.specs.Sums.{fSum}
-use Rattle.fits.specs.Line.{timeOf, lineSlope}
-use Rattle.fits.specs.Slope.{slopeMean, phaseOn, phaseOf, slopeOf}
-use Rattle.fits.specs.Gain.{refSample, hann, tiltOf, gainSum, hannSum}
+use Rattle.interiors.specs.Line.{timeOf, lineSlope}
+use Rattle.interiors.specs.Slope.{slopeMean, phaseOn, phaseOf, slopeOf}
+use Rattle.interiors.specs.Gain.{refSample, hann, tiltOf, gainSum, hannSum}
 use Rattle.fits.specs.Fit.{fitInside, fitWithin, fitOf}
 use Rattle.fits.specs.List.{fitsOf, skippedOf}
 use Rattle.fits.specs.Estimate.{fitsFound}
 use Rattle.float.proofs.Literals.{literals}
-use Rattle.fits.proofs.Slopes.{slope-cong}
+use Rattle.interiors.proofs.Slopes.{slope-cong}
 use Rattle.edge_table.specs.Ones.{isOne, onesOf}
 use Rattle.edge_table.specs.Table.{element, unitFit, Fits}
 use Rattle.edge_table.proofs.Ones.{real, length-ones, derot-ones}

@@ -19,7 +19,7 @@ use Rattle.elements.specs.declared.element.KeyedElement.{KeyedElement}
 use Rattle.elements.specs.declared.keying.Found.{Found}
 use Rattle.elements.specs.Find.{foundOf, elementsFound}
 use Rattle.fits.specs.declared.fit.ElementFit.{ElementFit}
-use Rattle.fits.specs.Interior.{slopeBlock}
+use Rattle.interiors.specs.Interior.{slopeBlock}
 use Rattle.fits.specs.List.{skippedOf}
 use Rattle.fits.specs.Estimate.{fitsFound}
 use Rattle.synth.specs.declared.span.Span.{Span}

@@ -14,13 +14,13 @@ use Rattle.lists.specs.Those.{those}
 use Rattle.lists.proofs.Members.{those-are, those-others}
 use Rattle.row.specs.Window.{samples}
 use Rattle.elements.specs.declared.element.KeyedElement.{KeyedElement}
-use Rattle.fits.specs.declared.interior.Interior.{Interior}
-use Rattle.fits.specs.declared.interior.Interior.the-variants.{Inside, Nothing}
+use Rattle.interiors.specs.declared.interior.Interior.{Interior}
+use Rattle.interiors.specs.declared.interior.Interior.the-variants.{Inside, Nothing}
 use Rattle.fits.specs.declared.fit.ElementFit.{ElementFit}
 use Rattle.fits.specs.declared.fit.Fit.{Fit}
 use Rattle.fits.specs.declared.fit.Fit.the-variants.{Fitted, Skipped}
-use Rattle.fits.specs.Interior.{interiorOf, slopeBlock}
-use Rattle.fits.specs.Gain.{hannSum}
+use Rattle.interiors.specs.Interior.{interiorOf, slopeBlock}
+use Rattle.interiors.specs.Gain.{hannSum}
 use Rattle.fits.specs.Fit.{fitInside, fitWithin, fitOf}
 use Rattle.fits.specs.List.{ifFitted, fitsOf, isSkipped, skippedOf}
 

@@ -15,16 +15,16 @@ use Rattle.row.specs.Samples.{Iq}
 use Rattle.row.specs.Window.{Rate, samples, stepOf, stepBlocks}
 use Rattle.row.proofs.Steps.{step-low}
 use Rattle.elements.specs.declared.element.KeyedElement.{KeyedElement}
-use Rattle.fits.specs.declared.interior.Interior.the-variants.{Inside, Nothing}
+use Rattle.interiors.specs.declared.interior.Interior.the-variants.{Inside, Nothing}
 use Rattle.fits.specs.declared.fit.Fit.{Fit}
 use Rattle.fits.specs.declared.fit.Fit.the-variants.{Fitted, Skipped}
-use Rattle.fits.specs.Interior.{interiorOf, slopeBlock}
-use Rattle.fits.specs.Slope.{slopeOf}
-use Rattle.fits.specs.Gain.{refSample, gainSum, hannSum}
+use Rattle.interiors.specs.Interior.{interiorOf, slopeBlock}
+use Rattle.interiors.specs.Slope.{slopeOf}
+use Rattle.interiors.specs.Gain.{refSample, gainSum, hannSum}
 use Rattle.fits.specs.Fit.{fitInside, fitWithin, fitOf}
 use Rattle.fits.specs.Inner.{Timed}
-use Rattle.fits.proofs.Blocks.{step-le-block, block-some}
-use Rattle.fits.proofs.Interiors.{interior-within}
+use Rattle.interiors.proofs.Blocks.{step-le-block, block-some}
+use Rattle.interiors.proofs.Interiors.{interior-within}
 
 module _ (iq : List Float) (cyc : Float) (block : ℕ) (e : KeyedElement) (i0 i1 : ℕ) (weight : Float) (w : weight ≡ hannSum (i1 - i0)) where
   pub fit-weightless : le weight plus-zero ≡ true → Skipped ≡ fitInside iq cyc block e i0 i1

@@ -29,18 +29,18 @@ use Rattle.row.proofs.Bounds.{derot-bounded}
 use Rattle.elements.specs.declared.element.KeyedElement.{KeyedElement}
 use Rattle.elements.specs.Find.{elementsFound}
 use Rattle.elements.proofs.Bounds.{found-bounded}
-use Rattle.fits.specs.declared.interior.Interior.{Interior}
-use Rattle.fits.specs.declared.interior.Interior.the-variants.{Inside, Nothing}
+use Rattle.interiors.specs.declared.interior.Interior.{Interior}
+use Rattle.interiors.specs.declared.interior.Interior.the-variants.{Inside, Nothing}
 use Rattle.fits.specs.declared.fit.ElementFit.{ElementFit}
 use Rattle.fits.specs.declared.fit.Fit.{Fit}
 use Rattle.fits.specs.declared.fit.Fit.the-variants.{Fitted, Skipped}
-use Rattle.fits.specs.Interior.{interiorOf, slopeBlock}
-use Rattle.fits.specs.Gain.{hann, tiltOf, leveled, gainSum, hannSum}
+use Rattle.interiors.specs.Interior.{interiorOf, slopeBlock}
+use Rattle.interiors.specs.Gain.{hann, tiltOf, leveled, gainSum, hannSum}
 use Rattle.fits.specs.Fit.{fitInside, fitWithin, fitOf}
 use Rattle.fits.specs.List.{ifFitted, fitsOf}
 use Rattle.fits.specs.Estimate.{fitsFound}
 use Rattle.fits.specs.Inner.{Timed}
-use Rattle.fits.proofs.Interiors.{interior-within}
+use Rattle.interiors.proofs.Interiors.{interior-within}
 use Rattle.fits.proofs.Passes.{bounded-sized}
 use Rattle.fits.proofs.Grains.{Grain, grain-add, half-less, grain-least, bounded-quotient}
 

@@ -7,13 +7,13 @@ use Rattle.float.specs.Ops.{plus-zero}
 use Rattle.complex.specs.Value.{cDiv}
 use Rattle.row.specs.Window.{samples}
 use Rattle.elements.specs.declared.element.KeyedElement.{KeyedElement}
-use Rattle.fits.specs.declared.interior.Interior.{Interior}
-use Rattle.fits.specs.declared.interior.Interior.the-variants.{Inside, Nothing}
+use Rattle.interiors.specs.declared.interior.Interior.{Interior}
+use Rattle.interiors.specs.declared.interior.Interior.the-variants.{Inside, Nothing}
 use Rattle.fits.specs.declared.fit.Fit.{Fit}
 use Rattle.fits.specs.declared.fit.Fit.the-variants.{Fitted, Skipped}
-use Rattle.fits.specs.Interior.{interiorOf, slopeBlock}
-use Rattle.fits.specs.Slope.{slopeOf}
-use Rattle.fits.specs.Gain.{refSample, gainSum, hannSum}
+use Rattle.interiors.specs.Interior.{interiorOf, slopeBlock}
+use Rattle.interiors.specs.Slope.{slopeOf}
+use Rattle.interiors.specs.Gain.{refSample, gainSum, hannSum}
 
 -- The fit over the samples from i0 up to, not including, i1. A fit holds its element, gain, slope and reference sample.
 -- The gain is acc / wacc; an element whose weights add up to 0 or less is skipped.

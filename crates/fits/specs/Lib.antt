@@ -1,9 +1,5 @@
 -- What the contracts of `fits` cite, in 01's order, each file named as its source. Inner is not needed to read a public
 -- promise.
-pub mod Interior
-pub mod Line
-pub mod Slope
-pub mod Gain
 pub mod Fit
 pub mod List
 pub mod Carrier

@@ -1,13 +1,13 @@
 // The fit of one element.
-use crate::gain::weigh;
-use crate::interior::Interior;
-use crate::interior::interior_of;
-use crate::interior::slope_block;
-use crate::kept::derotate;
-use crate::kept::room_for;
-use crate::slope::phase_slope;
 use complex::Complex;
 use elements::KeyedElement;
+use interiors::gain::weigh;
+use interiors::interior::Interior;
+use interiors::interior::interior_of;
+use interiors::interior::slope_block;
+use interiors::kept::derotate;
+use interiors::kept::room_for;
+use interiors::slope::phase_slope;
 ghost use mathlib.Core.Path.{_≡_};
 ghost use Prim.Native.Nat.{_+_, _-_, _*_, _/_, _≤_, _<_};
 ghost use lib.ListN.{length};

@@ -2,12 +2,7 @@
 pub mod carrier;
 pub mod estimate;
 pub mod fit;
-pub mod gain;
-pub mod interior;
-pub mod kept;
-pub mod line;
 pub mod list;
-pub mod slope;
 
 pub use carrier::mean_slope_hz;
 pub use estimate::Estimate;

@@ -1,7 +1,6 @@
 // Rust's functions of f64, total, against the logic's account of IEEE 754.
 pub mod compare;
 pub mod remainder;
-pub mod root;
 pub mod single;
 pub mod size;
 pub mod whole;
@@ -10,7 +9,6 @@ pub use compare::abs;
 pub use compare::max;
 pub use remainder::rem_euclid;
 pub use remainder::rem_one;
-pub use root::sqrt;
 pub use single::narrow;
 pub use size::finite;
 pub use size::finite_single;

@@ -22,11 +22,12 @@ use Rattle.classes.specs.declared.class.BlockClass.{BlockClass}
 use Rattle.classes.specs.declared.class.BlockClass.the-variants.{Gap, Interior}
 use Rattle.measure.specs.declared.offset.Offset.{Offset}
 use Rattle.measure.specs.declared.offset.Offset.the-variants.{Hz, Absent}
-use Rattle.measure.specs.Powers.{blockPower}
-use Rattle.measure.specs.Pairs.{above, strong, preceded, pairAt, pairsOf, IsPair, pairBlocks}
+use Rattle.prepared.specs.Powers.{blockPower}
+use Rattle.gaps.specs.Pairs.{above, strong, preceded, pairAt, pairsOf, IsPair, pairBlocks}
 use Rattle.measure.specs.Offset.{f0Of, strongest, powerAt, offsetFrom}
-use Rattle.measure.specs.Evidence.{isIn, evidenceWith, evidenceBy, meanAt, referenceOf, evidenceOf}
-use Rattle.measure.proofs.Counted.{count-there}
+use Rattle.gaps.specs.Reference.{meanAt}
+use Rattle.measure.specs.Evidence.{isIn, evidenceWith, evidenceBy, referenceOf, evidenceOf}
+use Rattle.gaps.proofs.Counted.{count-there}
 
 -- ---- pairs as a property, and as a count
 

@@ -40,8 +40,8 @@ use Rattle.synth.specs.Baseband.{synthAt}
 use Rattle.synth.proofs.Bounds.{sized-bounded, synth-bounded}
 use Rattle.classes.specs.declared.class.BlockClass.{BlockClass}
 use Rattle.classes.specs.Class.{isClass}
-use Rattle.measure.specs.Powers.{blockPower, powersOf}
-use Rattle.measure.specs.Left.{takenFrom, lessFit, lessFits, residualMean}
+use Rattle.prepared.specs.Powers.{blockPower, powersOf}
+use Rattle.prepared.specs.Left.{takenFrom, lessFit, lessFits, residualMean}
 
 -- a bound with its power of two taken apart
 cbounded-shift : (j : ℕ) {k a : ℕ} {z : Complex} → CBounded k (a * 2 ^ j) z → CBounded (k + j) a z

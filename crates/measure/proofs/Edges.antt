@@ -20,8 +20,8 @@ use Rattle.fits.specs.declared.fit.ElementFit.{ElementFit}
 use Rattle.classes.specs.declared.class.BlockClass.{BlockClass}
 use Rattle.classes.specs.declared.class.BlockClass.the-variants.{Edge, Interior, Gap}
 use Rattle.measure.specs.declared.residual.ResidualCheck.{ResidualCheck}
-use Rattle.measure.specs.Powers.{powersOf}
-use Rattle.measure.specs.Left.{residualMean}
+use Rattle.prepared.specs.Powers.{powersOf}
+use Rattle.prepared.specs.Left.{residualMean}
 use Rattle.measure.specs.Residual.{ratioDb, floored, figuresOf, residualOf, cleanOf}
 
 no-median : percentileOf [] half ≡ Nothing

@@ -14,11 +14,11 @@ use Rattle.classes.specs.declared.class.BlockClass.{BlockClass}
 use Rattle.classes.specs.declared.class.BlockClass.the-variants.{Gap, Interior}
 use Rattle.classes.specs.Class.{codeOf}
 use Rattle.measure.specs.declared.evidence.SecondCarrierEvidence.{SecondCarrierEvidence}
-use Rattle.measure.specs.Inner.{Prepared, classIn}
-use Rattle.measure.specs.Reference.{referenceBy}
-use Rattle.measure.specs.Evidence.{isIn, evidenceWith, evidenceBy, meanAt, evidenceOf}
-use Rattle.measure.proofs.Parts.{take-at, zAt-below}
-use Rattle.measure.proofs.Gathered.{class-prepared}
+use Rattle.prepared.specs.Inner.{Prepared, classIn}
+use Rattle.gaps.specs.Reference.{referenceBy, meanAt}
+use Rattle.measure.specs.Evidence.{isIn, evidenceWith, evidenceBy, evidenceOf}
+use Rattle.prepared.proofs.Parts.{take-at, zAt-below}
+use Rattle.prepared.proofs.Gathered.{class-prepared}
 use Rattle.measure.proofs.Same.{with-same, evidence-same}
 
 -- the window, and the number of blocks, from the step

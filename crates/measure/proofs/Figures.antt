@@ -22,14 +22,15 @@ use Rattle.classes.specs.declared.class.BlockClass.{BlockClass}
 use Rattle.classes.specs.declared.class.BlockClass.the-variants.{Edge, Interior, Gap}
 use Rattle.classes.specs.Class.{codeOf, isClass}
 use Rattle.classes.specs.Classify.{countsOf}
-use Rattle.measure.specs.declared.powers.Level.{Level}
+use Rattle.prepared.specs.declared.powers.Level.{Level}
 use Rattle.measure.specs.declared.residual.ResidualCheck.{ResidualCheck}
-use Rattle.measure.specs.Powers.{blockPower, powersOf}
-use Rattle.measure.specs.Left.{lessFits, residualMean}
+use Rattle.prepared.specs.Powers.{blockPower, powersOf}
+use Rattle.prepared.specs.Left.{lessFits, residualMean}
 use Rattle.measure.specs.Residual.{figuresOf, residualOf}
-use Rattle.measure.specs.Inner.{Prepared, Lessened, classIn, powerIn, powersIn, figuresFrom, residualIn}
-use Rattle.measure.proofs.Parts.{take-at, take-less}
-use Rattle.measure.proofs.Gathered.{class-prepared, powers-same}
+use Rattle.prepared.specs.Inner.{Prepared, Lessened, classIn, powerIn, powersIn}
+use Rattle.measure.specs.Inner.{figuresFrom, residualIn}
+use Rattle.prepared.proofs.Parts.{take-at, take-less}
+use Rattle.prepared.proofs.Gathered.{class-prepared, powers-same}
 
 -- the window that the code computes, and how many blocks of it fit
 pub record Windowed (fs : Float) (step nb : ℕ) : Type 0 where

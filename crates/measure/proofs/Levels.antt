@@ -23,9 +23,8 @@ use Rattle.row.specs.Window.{stepOf, windowOf, blocks}
 use Rattle.row.specs.Blocks.{blockMean}
 use Rattle.row.proofs.Steps.{step-low}
 use Rattle.row.proofs.Bounds.{block-bounded}
-use Rattle.measure.specs.Powers.{blockPower}
-use Rattle.measure.specs.Reference.{sideOf, referenceFrom}
-use Rattle.measure.specs.Evidence.{meanAt}
+use Rattle.prepared.specs.Powers.{blockPower}
+use Rattle.gaps.specs.Reference.{sideOf, referenceFrom, meanAt}
 
 -- ---- lists of values that each are something
 

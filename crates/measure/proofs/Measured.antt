@@ -23,11 +23,13 @@ use Rattle.classes.proofs.Counts.{counts-hold}
 use Rattle.measure.specs.declared.residual.ResidualCheck.{ResidualCheck}
 use Rattle.measure.specs.declared.evidence.SecondCarrierEvidence.{SecondCarrierEvidence}
 use Rattle.measure.specs.declared.both.Measures.{Measures}
-use Rattle.measure.specs.Inner.{Prepared, classIn, residualIn}
+use Rattle.prepared.specs.Inner.{Prepared, classIn}
+use Rattle.measure.specs.Inner.{residualIn}
 use Rattle.measure.specs.Residual.{residualCheckOf}
-use Rattle.measure.specs.Evidence.{evidenceBy, meanAt, evidenceCheckOf}
+use Rattle.gaps.specs.Reference.{meanAt}
+use Rattle.measure.specs.Evidence.{evidenceBy, evidenceCheckOf}
 use Rattle.measure.specs.Both.{measuresOf}
-use Rattle.measure.proofs.Gathered.{prepared-kept}
+use Rattle.prepared.proofs.Gathered.{prepared-kept}
 use Rattle.measure.proofs.Figures as residuals
 use Rattle.measure.proofs.Evidences as evidences
 

@@ -18,11 +18,11 @@ use Rattle.row.specs.Blocks.{blockMean}
 use Rattle.measure.specs.declared.offset.Offset.{Offset}
 use Rattle.measure.specs.declared.offset.Offset.the-variants.{Hz, Absent}
 use Rattle.measure.specs.declared.offset.Candidate.{Candidate}
-use Rattle.measure.specs.declared.pairs.Pairs.{Pairs}
-use Rattle.measure.specs.Powers.{blockPower}
+use Rattle.gaps.specs.declared.pairs.Pairs.{Pairs}
+use Rattle.prepared.specs.Powers.{blockPower}
 use Rattle.measure.specs.Offset.{powerAt, stronger, strongest, offsetFrom}
-use Rattle.measure.specs.Evidence.{meanAt}
-use Rattle.measure.proofs.Counted.{picked-yes, picked-no}
+use Rattle.gaps.specs.Reference.{meanAt}
+use Rattle.gaps.proofs.Counted.{picked-yes, picked-no}
 
 -- ---- the loop: before it, a turn that adds a figure, one that does not, and after it. The code's −0.0 is 0.0 negated.
 

@@ -25,8 +25,8 @@ use Rattle.classes.specs.declared.class.BlockClass.the-variants.{Edge, Interior
 use Rattle.classes.specs.Class.{isClass}
 use Rattle.classes.specs.Classify.{timesOf, timesOfFit, classOf}
 use Rattle.classes.proofs.ByTimes.{class-by-times}
-use Rattle.measure.specs.Powers.{blockPower, powersOf}
-use Rattle.measure.specs.Left.{takenFrom, lessFit, lessFits, residualMean}
+use Rattle.prepared.specs.Powers.{blockPower, powersOf}
+use Rattle.prepared.specs.Left.{takenFrom, lessFit, lessFits, residualMean}
 use Rattle.measure.specs.Residual.{residualOf, residualCheckOf}
 use Rattle.measure.specs.Agree.{AgreeIn}
 

@@ -17,7 +17,8 @@ use Rattle.classes.specs.declared.class.BlockClass.{BlockClass}
 use Rattle.classes.specs.declared.class.BlockClass.the-variants.{Edge, Interior, Gap, Other}
 use Rattle.classes.specs.Class.{isClass}
 use Rattle.classes.specs.Classify.{timesOf, classOf}
-use Rattle.measure.specs.Evidence.{isIn, meanAt, referenceOf, evidenceOf, evidenceCheckOf}
+use Rattle.gaps.specs.Reference.{meanAt}
+use Rattle.measure.specs.Evidence.{isIn, referenceOf, evidenceOf, evidenceCheckOf}
 use Rattle.measure.specs.Agree.{AgreeIn}
 use Rattle.measure.proofs.Reach.{block-agree, class-alike}
 use Rattle.measure.proofs.Same.{reference-same, evidence-same}

@@ -20,9 +20,9 @@ use Rattle.constants.specs.Constants.{REFERENCE_OFFSET_HZ}
 use Rattle.complex.specs.declared.value.Complex.{Complex}
 use Rattle.complex.specs.Value.{cMul, cConj, cNormSqr}
 use Rattle.row.specs.Window.{windowOf}
-use Rattle.measure.specs.Powers.{blockPower}
-use Rattle.measure.specs.Reference.{sideOf, referenceFrom, referenceBy}
-use Rattle.measure.specs.Pairs.{above, hot, strong, gapsOf, preceded, followed, pairAt, lagged, products, pairsOf, inPair, pairBlocks}
+use Rattle.prepared.specs.Powers.{blockPower}
+use Rattle.gaps.specs.Reference.{sideOf, referenceFrom, referenceBy}
+use Rattle.gaps.specs.Pairs.{above, hot, strong, gapsOf, preceded, followed, pairAt, lagged, products, pairsOf, inPair, pairBlocks}
 use Rattle.measure.specs.Offset.{powerAt, stronger, strongest, offsetFrom}
 use Rattle.measure.specs.Evidence.{evidenceWith, evidenceBy}
 

@@ -9,18 +9,17 @@ use Rattle.float.specs.Ops.{_⊘_, of, plus-zero}
 use Rattle.complex.specs.declared.value.Complex.{Complex}
 use Rattle.complex.specs.Value.{cNorm}
 use Rattle.row.specs.Window.{windowOf, samples, blocks}
-use Rattle.row.specs.Blocks.{blockMean}
 use Rattle.elements.specs.declared.element.KeyedElement.{KeyedElement}
 use Rattle.fits.specs.declared.fit.ElementFit.{ElementFit}
 use Rattle.classes.specs.declared.class.BlockClass.{BlockClass}
 use Rattle.classes.specs.declared.class.BlockClass.the-variants.{Gap, Interior}
 use Rattle.classes.specs.Class.{isClass}
 use Rattle.classes.specs.Classify.{classOf}
-use Rattle.measure.specs.declared.pairs.Gaps.{Gaps}
-use Rattle.measure.specs.declared.pairs.Pairs.{Pairs}
+use Rattle.gaps.specs.declared.pairs.Gaps.{Gaps}
+use Rattle.gaps.specs.declared.pairs.Pairs.{Pairs}
 use Rattle.measure.specs.declared.evidence.SecondCarrierEvidence.{SecondCarrierEvidence}
-use Rattle.measure.specs.Reference.{referenceBy}
-use Rattle.measure.specs.Pairs.{gapsOf, strong, pairsOf, pairBlocks}
+use Rattle.gaps.specs.Reference.{meanAt, referenceBy}
+use Rattle.gaps.specs.Pairs.{gapsOf, strong, pairsOf, pairBlocks}
 use Rattle.measure.specs.Offset.{offsetFrom}
 
 -- the blocks of a class
@@ -57,16 +56,12 @@ module _ (mean : Float → ℕ → Complex) (fs carrier : Float) (gap : ℕ → 
 
 -- of a recording at a rate and a carrier, by the class of each of its blocks
 module _ (iq : List Float) (fs : Float) where
-  -- the block means at a carrier
-  abbrev pub meanAt : Float → ℕ → Complex
-  meanAt carrier = blockMean iq (carrier ⊘ fs) (windowOf fs)
-
   module _ (carrier : Float) (class : ℕ → BlockClass) (nb : ℕ) where
     unfoldable pub referenceOf : Float
-    referenceOf = referenceBy meanAt carrier (isIn Gap class) (isIn Interior class) (meanAt carrier) nb
+    referenceOf = referenceBy (meanAt iq fs) carrier (isIn Gap class) (isIn Interior class) (meanAt iq fs carrier) nb
 
     unfoldable pub evidenceOf : SecondCarrierEvidence
-    evidenceOf = evidenceBy meanAt fs carrier (isIn Gap class) (isIn Interior class) (meanAt carrier) nb
+    evidenceOf = evidenceBy (meanAt iq fs) fs carrier (isIn Gap class) (isIn Interior class) (meanAt iq fs carrier) nb
 
 -- `second_carrier_evidence`, of a recording at a rate and an estimate: its carrier, fits and elements
 abbrev pub evidenceCheckOf : List Float → Float → Float → List ElementFit → List KeyedElement → SecondCarrierEvidence

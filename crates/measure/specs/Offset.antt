@@ -12,8 +12,8 @@ use Rattle.complex.specs.declared.value.Complex.{Complex}
 use Rattle.complex.specs.Value.{cArg}
 use Rattle.measure.specs.declared.offset.Offset.{Offset}
 use Rattle.measure.specs.declared.offset.Offset.the-variants.{Hz, Absent}
-use Rattle.measure.specs.declared.pairs.Pairs.{Pairs}
-use Rattle.measure.specs.Powers.{blockPower}
+use Rattle.gaps.specs.declared.pairs.Pairs.{Pairs}
+use Rattle.prepared.specs.Powers.{blockPower}
 
 -- `power`: the sum of the powers of some blocks at the carrier + f. Rust's `.sum()` starts at −0.0.
 unfoldable pub powerAt : (Float → ℕ → Complex) → Float → List ℕ → Float → Float

@@ -21,8 +21,8 @@ use Rattle.classes.specs.declared.class.BlockClass.{BlockClass}
 use Rattle.classes.specs.declared.class.BlockClass.the-variants.{Edge, Interior, Gap}
 use Rattle.classes.specs.Classify.{classOf}
 use Rattle.measure.specs.declared.residual.ResidualCheck.{ResidualCheck}
-use Rattle.measure.specs.Powers.{powersOf}
-use Rattle.measure.specs.Left.{residualMean}
+use Rattle.prepared.specs.Powers.{powersOf}
+use Rattle.prepared.specs.Left.{residualMean}
 
 -- cancel.rs's `ratio_db`: +∞ where a side is missing or the lower one is not above 0; the upper one counts as no less
 -- than the smallest normal number

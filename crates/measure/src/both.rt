@@ -1,11 +1,11 @@
 // Both measures at an estimate, from one preparation of the work slice.
 use crate::evidence::SecondCarrierEvidence;
 use crate::evidence::evidence;
-use crate::prepare::prepare;
 use crate::residual::ResidualCheck;
 use crate::residual::residual;
 use classes::ClassCounts;
 use classes::count_classes;
+use prepared::prepare::prepare;
 ghost use mathlib.Core.Path.{_≡_};
 ghost use Prim.Native.Nat.{_*_, _≤_};
 ghost use lib.ListN.{length};

@@ -1,12 +1,12 @@
 // The evidence of a second carrier in the gaps of a strong sender.
 use crate::offset::Offset;
 use crate::offset::find_offset;
-use crate::pairs::Gaps;
-use crate::pairs::Pairs;
-use crate::pairs::count_gaps;
-use crate::pairs::sum_pairs;
-use crate::prepare::prepare;
-use crate::reference::find_reference;
+use gaps::pairs::Gaps;
+use gaps::pairs::Pairs;
+use gaps::pairs::count_gaps;
+use gaps::pairs::sum_pairs;
+use gaps::reference::find_reference;
+use prepared::prepare::prepare;
 use row::edge_step;
 ghost use mathlib.Core.Path.{_≡_};
 ghost use Prim.Native.Nat.{_*_, _≤_};
@@ -18,8 +18,9 @@ ghost use Rattle.row.specs.Window.{Rate, windowOf, blocks, stepBlocks};
 ghost use Rattle.elements.specs.Element.{elementsIn};
 ghost use Rattle.fits.specs.List.{fitsIn};
 ghost use Rattle.classes.specs.declared.class.BlockClass.the-variants.{Gap, Interior};
-ghost use Rattle.measure.specs.Inner.{classIn};
-ghost use Rattle.measure.specs.Evidence.{hotFraction, coherenceOf, evidenceWith, evidenceBy, meanAt, evidenceCheckOf};
+ghost use Rattle.prepared.specs.Inner.{classIn};
+ghost use Rattle.gaps.specs.Reference.{meanAt};
+ghost use Rattle.measure.specs.Evidence.{hotFraction, coherenceOf, evidenceWith, evidenceBy, evidenceCheckOf};
 
 // Rust: SecondCarrierEvidence.
 pub struct SecondCarrierEvidence {

@@ -3,12 +3,7 @@
 pub mod both;
 pub mod evidence;
 pub mod hypothesis;
-pub mod left;
 pub mod offset;
-pub mod pairs;
-pub mod powers;
-pub mod prepare;
-pub mod reference;
 pub mod residual;
 
 pub use both::Measures;

@@ -1,7 +1,7 @@
 // The offset of a second carrier from the strong one, by the pairs of gap blocks.
-use crate::pairs::Pairs;
-use crate::pairs::in_pair;
 use constants::PAIR_FACTOR;
+use gaps::pairs::Pairs;
+use gaps::pairs::in_pair;
 use row::block_mean;
 use trig::TAU;
 ghost use mathlib.Core.Path.{_≡_};
@@ -17,11 +17,11 @@ ghost use Rattle.row.specs.Samples.{Iq};
 ghost use Rattle.row.specs.Window.{windowOf, blocks};
 ghost use Rattle.row.specs.Blocks.{blockMean};
 ghost use Rattle.classes.specs.declared.class.BlockClass.the-variants.{Gap};
-ghost use Rattle.measure.specs.Inner.{classIn};
-ghost use Rattle.measure.specs.Powers.{blockPower};
-ghost use Rattle.measure.specs.Pairs.{above, strong, pairBlocks};
+ghost use Rattle.prepared.specs.Inner.{classIn};
+ghost use Rattle.prepared.specs.Powers.{blockPower};
+ghost use Rattle.gaps.specs.Pairs.{above, strong, pairBlocks};
 ghost use Rattle.measure.specs.Offset.{powerAt, strongest, offsetFrom};
-ghost use Rattle.measure.specs.Evidence.{meanAt};
+ghost use Rattle.gaps.specs.Reference.{meanAt};
 
 // Rust: an Option<f64>.
 pub enum Offset {

@@ -1,13 +1,13 @@
 // The residual check: what taking an estimate off would leave of the strong sender, over the level of its neighbour.
-use crate::left::lessen;
-use crate::powers::Level;
-use crate::powers::level_of;
-use crate::prepare::prepare;
 use classes::BlockClass;
 use constants::CLEAN_EDGE_OVER_NEIGHBOUR_DB;
 use constants::CLEAN_INTERIOR_OVER_NEIGHBOUR_DB;
 use constants::MIN_POSITIVE;
 use constants::NEIGHBOUR_PERCENTILE;
+use prepared::left::lessen;
+use prepared::powers::Level;
+use prepared::powers::level_of;
+use prepared::prepare::prepare;
 use rank::Percentile;
 ghost use mathlib.Core.Path.{_≡_};
 ghost use Prim.Native.Nat.{_*_, _≤_};

@@ -1,12 +1,5 @@
 // Each call on a stored case, in slices of the lengths that the case names: whether all that it answers and leaves is
 // what is stored, and its refusal's number.
-use crate::asked::Asked;
-use crate::asked::figures;
-use crate::equal::as_lent;
-use crate::equal::changed;
-use crate::equal::same_figures;
-use crate::equal::same_floats;
-use crate::equal::same_list;
 use crate::figures::number;
 use crate::figures::of_estimate;
 use crate::figures::of_evidence;
@@ -15,8 +8,6 @@ use crate::figures::of_fit;
 use crate::figures::of_hypothesis;
 use crate::figures::of_residual;
 use crate::figures::of_run;
-use crate::units::double;
-use crate::units::long;
 use cancel::Estimate;
 use cancel::EstimateAnswer;
 use cancel::EvidenceAnswer;
@@ -29,6 +20,15 @@ use cancel::ResidualAnswer;
 use cancel::RunAnswer;
 use cancel::SecondCarrierEvidence;
 use cancel::SubtractAnswer;
+use stored::asked::Asked;
+use stored::asked::figures;
+use stored::equal::as_lent;
+use stored::equal::changed;
+use stored::equal::same_figures;
+use stored::equal::same_floats;
+use stored::equal::same_list;
+use stored::units::double;
+use stored::units::long;
 
 // What came of a case: whether it is equal, and 0 or the refusal's number.
 pub struct Answered {

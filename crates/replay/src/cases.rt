@@ -1,16 +1,16 @@
 // A stored case: lends what it names and asks its call. Lists and work slice hold one number before the call, so that
 // it shows where a call wrote.
-use crate::asked::of_case;
 use crate::calls;
 use crate::calls::Answered;
 use crate::calls::Ran;
-use crate::equal::LENT;
-use crate::kept::ELEMENTS;
-use crate::kept::FITS;
-use crate::kept::FLOATS;
-use crate::kept::WORK;
-use crate::kept::copied;
-use crate::units::shorter;
+use stored::asked::of_case;
+use stored::equal::LENT;
+use stored::kept::ELEMENTS;
+use stored::kept::FITS;
+use stored::kept::FLOATS;
+use stored::kept::WORK;
+use stored::kept::copied;
+use stored::units::shorter;
 
 pub fn find(body: &[u8], iq: &[f32], stored_elements: &[f64]) -> Answered {
     let a = of_case(body);

@@ -1,24 +1,21 @@
 // Replays the Rust's stored answers: reads them from standard input, asks each call again and compares every number.
 // crates/replay/README.md has the form of the file and how it was made.
-mod asked;
 mod calls;
 mod cases;
-mod equal;
 mod figures;
-mod kept;
-mod tally;
-mod told;
-mod units;
 
 use crate::calls::Answered;
 use crate::calls::Ran;
-use crate::kept::ELEMENTS;
-use crate::kept::FITS;
-use crate::kept::FLOATS;
-use crate::tally::add;
-use crate::tally::only_if;
-use crate::units::count;
 use libc::STDIN_FILENO;
+use stored::kept;
+use stored::kept::ELEMENTS;
+use stored::kept::FITS;
+use stored::kept::FLOATS;
+use stored::tally;
+use stored::tally::add;
+use stored::tally::only_if;
+use stored::told;
+use stored::units::count;
 ghost use Prim.Native.Nat.{_+_, _/_, _≤_, _<_};
 ghost use lib.ListN.{length};
 

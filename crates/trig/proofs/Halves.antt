@@ -1,5 +1,5 @@
--- y to the nearest whole number, a half away from zero, by the size of y: what `marked` adds to the mark where y may lie
--- half-way between two. Assumes nothing.
+-- y to the nearest whole number, a half away from zero, by the size of y: what `marked` adds to the mark where y may
+-- lie half-way between two. Assumes nothing.
 use mathlib.Core.Path.{_≡_, refl, sym, ap, _∙_}
 use Prim.Native.Nat.{ℕ, zero, suc, _+_, _*_, _^_, _≤_, _<_, zero-le}
 use native.Mathlib.Nat.{div-eq-of-lt, zero-mul}

@@ -3,7 +3,7 @@ use Prim.Native.Nat.{_≤_, _-_}
 use mathlib.Core.Path.{_≡_}
 use lib.ListN.{length}
 use Rattle.fits.specs.Inner.{storedFits}
-use Rattle.fits.proofs.Laws.{laws}
+use Rattle.interiors.proofs.Laws.{laws}
 use Rattle.fits.proofs.Listing.{fitsTo, fits-none, fits-turn, fits-few, fits-done}
 use Rattle.fits.proofs.list.fit_elements.Statement.{statement}
 use Rattle.fits.proofs.list.fit_elements.Tie as tie

@@ -12,9 +12,9 @@ use Rattle.complex.specs.Rows.{zAt}
 use Rattle.row.specs.Blocks.{blockMean}
 use Rattle.row.proofs.Means.{block-fits}
 use Rattle.classes.specs.declared.class.BlockClass.the-variants.{Gap}
-use Rattle.measure.specs.Inner.{classIn}
-use Rattle.measure.specs.Powers.{blockPower}
-use Rattle.measure.specs.Pairs.{above, inPair}
+use Rattle.prepared.specs.Inner.{classIn}
+use Rattle.prepared.specs.Powers.{blockPower}
+use Rattle.gaps.specs.Pairs.{above, inPair}
 use Rattle.measure.proofs.Offsets.{over-none, over-yes, over-no, over-done}
 use Rattle.measure.proofs.offset.paired_power.Statement.{statement}
 use Rattle.measure.proofs.offset.paired_power.Tie as tie

@@ -1,0 +1,76 @@
+-- The invariant: n powers of the first b blocks are stored.
+use Prim.Native.Nat.{_*_, _≤_, _-_}
+use native.Mathlib.Omega.{arith}
+use mathlib.Core.Path.{_≡_, refl, ap, _∙_}
+use mathlib.Core.Logic.{⊎-elim}
+use lib.ListN.{length, length-set}
+use borrow.Author.Needs.{needs}
+use Rattle.lists.specs.Count.{countTo}
+use Rattle.lists.specs.Those.{keep}
+use Rattle.row.specs.Blocks.{blockMean}
+use Rattle.row.proofs.Means.{block-fits}
+use Rattle.classes.specs.declared.class.BlockClass.the-variants.{Gap}
+use Rattle.complex.specs.Value.{cNormSqr}
+use Rattle.prepared.specs.Inner.{classIn}
+use Rattle.prepared.specs.Powers.{blockPower}
+use Rattle.gaps.proofs.References.{kept-yes, kept-no, kept-done}
+use Rattle.gaps.proofs.reference.gap_powers.Statement.{statement}
+use Rattle.gaps.proofs.reference.gap_powers.Tie as tie
+
+abbrev Inv-loop : tie.InvT-loop
+Inv-loop iq cyc len work₀ nb out sine n₀ b₀ work n b =
+    (b ≤ nb) × (n ≤ b) × (length work ≡ length work₀) × (n ≡ countTo (classIn work₀ (2 * nb) Gap) b)
+    × (work ≡ keep work₀ out (classIn work₀ (2 * nb) Gap) (blockPower (blockMean iq cyc len)) b)
+
+abbrev μ-loop : tie.MeasureT-loop
+μ-loop iq cyc len work₀ nb out sine n₀ b₀ work n b = nb - b
+
+loop-holds : tie.Need-loop-holds Inv-loop μ-loop
+unfolding countTo keep
+loop-holds c = (search needs, search needs, search needs, refl, refl)
+
+block-mean-requires : tie.Need-block-mean-requires Inv-loop μ-loop
+block-mean-requires c κs =
+    let at = c .before .before .before .before in
+    let s = at .before .before .before in
+    (s .pre .0, (s .pre .1 .0, block-fits _ _ _ (omega arith)))
+
+loop-again : tie.Need-loop-again Inv-loop μ-loop
+loop-again c =
+    let class = c .before in
+    let inv = class .before .before .before .loop .inv in
+    ⊎-elim
+    (λ w.
+    let next = kept-yes _ _ _ _ _ _ _ _ _ _ _ _ (inv .4) (inv .3) (class .is-class .ensures) (w .0 .taken) (w .2 .ensures ∙ ap cNormSqr (w .1 .ensures)) (w .3) (w .4) (omega arith) in
+    (search needs, omega (arith, w .4), ap length (w .3) ∙ simp length-set (inv .2), next .0, next .1))
+    (λ w.
+    let next = kept-no _ _ _ _ _ _ _ _ _ _ _ (inv .4) (inv .3) (class .is-class .ensures) (w .0 .left) (w .1) (w .2) (omega arith) in
+    (search needs, omega (arith, w .2), ap length (w .1) ∙ inv .2, next .0, next .1))
+    (c .if1 .came)
+
+returns : tie.Need-returns Inv-loop μ-loop
+returns c =
+    let inv = c .before .loop .inv in
+    kept-done _ _ _ _ _ _ _ _ _ (inv .4) (inv .3) (omega arith) (omega arith)
+
+pub gap-powers-spec : {M : Type 1} → statement M
+gap-powers-spec =
+    tie.close
+    (tie.spec
+    Inv-loop
+    μ-loop
+    loop-holds
+    (λ c. search needs)
+    (λ c. search needs)
+    (λ c κs. search needs)
+    block-mean-requires
+    (λ c κs. search needs)
+    (λ c. search needs)
+    (λ c. search needs)
+    (λ c. search needs)
+    (λ c. search needs)
+    (λ c. search needs)
+    (λ c. search needs)
+    loop-again
+    (λ c. search needs)
+    returns)

@@ -1,0 +1,80 @@
+-- The invariant: the blocks before b are done, `from` is the first sample of block b.
+use Prim.Native.Nat.{_+_, _*_, _-_, _≤_, _<_}
+use native.Mathlib.Omega.{arith}
+use native.Mathlib.Nat.{div-mul-le-self, suc-mul}
+use mathlib.Core.Path.{_≡_}
+use lib.ListN.{length}
+use borrow.Author.Needs.{needs}
+use Rattle.synth.specs.Span.{spanOf}
+use Rattle.synth.proofs.Spans.{span-ordered, span-inside}
+use Rattle.prepared.proofs.Taken.{Turned, turned-none, turned-turn, turned-done, block-inside}
+use Rattle.prepared.proofs.left.less_fit.Statement.{statement}
+use Rattle.prepared.proofs.left.less_fit.Tie as tie
+
+abbrev Inv-loop : tie.InvT-loop
+Inv-loop row₀ nb f fs len sine s hi b₀ from₀ row b from =
+    (hi ≡ s .hi) × (s .hi ≤ nb * len) × (s ≡ spanOf fs (nb * len) f) × (from ≡ b * len) × (length row ≡ length row₀) × Turned fs len nb f row₀ row b
+
+abbrev μ-loop : tie.MeasureT-loop
+μ-loop row₀ nb f fs len sine s hi b₀ from₀ row b from = hi - from
+
+-- in a turn: block b is one of the nb
+inside : (c : tie.In-loop Inv-loop μ-loop)
+    → let args = c .before .before .before .before .before .args in
+    let at = c .before .loop in
+    (at .b < args .nb) × (at .from + args .len ≤ args .nb * args .len) × (2 * at .b + 1 < length (at .row))
+inside c =
+    let inv = c .before .loop .inv in
+    let here = block-inside _ _ _ _ _ (inv .3) (c .loop-test .taken) (inv .1) in
+    (here .0, here .1, omega (arith, here .0))
+
+mul-from : tie.Need-mul-from Inv-loop μ-loop
+mul-from c =
+    let s = c .before .fit-span .result in
+    let low : s .lo ≤ s .hi = rw (c .before .fit-span .ensures) (span-ordered _ _ _) in
+    let high : s .hi ≤ c .before .before .before .args .nb * c .before .before .before .args .len = rw (c .before .fit-span .ensures) (span-inside _ _ _) in
+    omega (arith, div-mul-le-self (s .lo) (c .before .before .before .args .len))
+
+loop-holds : tie.Need-loop-holds Inv-loop μ-loop
+loop-holds c =
+    let span = c .before .fit-span .ensures in
+    (search needs, rw span (span-inside _ _ _), span, search needs, search needs, turned-none _ _ _ _ _ span _ (search needs))
+
+loop-again : tie.Need-loop-again Inv-loop μ-loop
+loop-again c =
+    let less = c .before .before .before in
+    let got = less .before .before in
+    let turn = got .before .before in
+    let inv = turn .before .loop .inv in
+    let here = inside turn in (
+      inv .0,
+      inv .1,
+      inv .2,
+      omega (arith, inv .3, suc-mul (turn .before .loop .b) (turn .before .before .before .before .before .args .len)),
+      search needs,
+      turned-turn _ _ _ _ _ (inv .2) _ _ _ _ _ _ _ (inv .5) (inv .3) (got .get .ensures) (less .less-span .ensures) (c .before .before .put .ensures) (omega arith),
+    )
+
+returns : tie.Need-returns Inv-loop μ-loop
+returns c = let inv = c .before .loop .inv in λ b h. turned-done _ _ _ _ _ (inv .2) _ _ _ _ (inv .5) (inv .3) (omega arith) b
+
+pub less-fit-spec : {M : Type 1} → statement M
+less-fit-spec =
+    tie.close
+    (tie.spec
+    Inv-loop
+    μ-loop
+    (λ c. search needs)
+    (λ c κs. search needs)
+    (λ c. search needs)
+    mul-from
+    loop-holds
+    (λ c κs. let here = inside (c .before) in omega arith)
+    (λ c κs. let here = inside (c .before .before .before) in search needs)
+    (λ c κs. let here = inside (c .before .before .before .before) in omega arith)
+    (λ c. let here = inside (c .before .before .before .before .before .before .before) in omega arith)
+    (λ c. let here = inside (c .before .before .before .before .before .before .before) in omega arith)
+    (λ c. search needs)
+    loop-again
+    (λ c. search needs)
+    returns)

@@ -1,0 +1,24 @@
+use borrow.Author.Needs.{needs}
+use Rattle.prepared.proofs.Taken.{span-some, span-none}
+use Rattle.prepared.proofs.left.less_span.Statement.{statement}
+use Rattle.prepared.proofs.left.less_span.Tie as tie
+
+returns : tie.Need-returns
+returns c =
+    let cut = c .before .before in
+    span-some _ _ _ _ _ _ _ _ _ (cut .before .most .ensures) (cut .least .ensures) (c .taken-from .ensures)
+
+returns-2 : tie.Need-returns-2
+returns-2 c = span-none _ _ _ _ _ _ _ _ (c .before .before .most .ensures) (c .before .least .ensures) (c .if1 .left)
+
+pub less-span-spec : {M : Type 1} → statement M
+less-span-spec =
+    tie.close
+    (tie.spec
+    (λ c. search needs)
+    (λ c κs. search needs)
+    (λ c κs. search needs)
+    (λ c. search needs)
+    (λ c κs. search needs)
+    returns
+    returns-2)

@@ -1,0 +1,4 @@
+-- What the contracts of `prepared` cite. Inner is not needed to read a public promise.
+pub mod Powers
+pub mod Left
+pub mod Inner

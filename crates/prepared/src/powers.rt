@@ -1,0 +1,69 @@
+// The powers of the blocks of one class, one after the other in the work slice.
+use classes::BlockClass;
+use rank::Percentile;
+use rank::select::percentile;
+ghost use mathlib.Core.Path.{_≡_};
+ghost use Prim.Native.Nat.{_+_, _*_, _≤_};
+ghost use lib.ListN.{length, take};
+ghost use Rattle.lists.specs.Count.{countTo};
+ghost use Rattle.lists.specs.Those.{keep};
+ghost use Rattle.rank.specs.Select.{percentileOf};
+ghost use Rattle.prepared.specs.Inner.{classIn, powerIn, powersIn};
+
+// Rust: the `push`es of a class in residual_check, and `interior` in second_carrier_evidence. The nb means stand from
+// complex number `means` on, the numbers of their classes from `codes` on; the powers go to `out` and the numbers after
+// it. The answer is how many they are.
+pub fn gather(
+    work: &mut [f64],
+    means: usize,
+    codes: usize,
+    nb: usize,
+    class: BlockClass,
+    out: usize,
+) -> usize
+    requires { ⌜ 2 * (means + nb) ≤ out ⌝ }
+    requires { ⌜ codes + nb ≤ out ⌝ }
+    requires { ⌜ out + nb ≤ length (now work) ⌝ }
+    ensures { λ r. ⌜ (r ≡ countTo (classIn (now (work .entry)) codes class) nb)
+        × (now (work .exit) ≡ keep (now (work .entry)) out (classIn (now (work .entry)) codes class) (powerIn (now (work .entry)) means) nb) ⌝ }
+{
+    let code = classes::code(class);
+    let mut n: usize = 0;
+    for b in 0..nb {
+        if work[codes + b] == code {
+            work[out + n] = complex::get(work, means + b).norm_sqr();
+            n = n + 1;
+        }
+    }
+    n
+}
+
+// A percentile of a class's powers, and how many they are.
+pub struct Level {
+    pub value: Percentile,
+    pub count: usize,
+}
+
+// The powers of a class as `gather` has them, at `out` and after it, and their p-th percentile.
+pub fn level_of(
+    work: &mut [f64],
+    means: usize,
+    codes: usize,
+    nb: usize,
+    class: BlockClass,
+    out: usize,
+    p: f64,
+) -> Level
+    requires { ⌜ 2 * (means + nb) ≤ out ⌝ }
+    requires { ⌜ codes + nb ≤ out ⌝ }
+    requires { ⌜ out + nb ≤ length (now work) ⌝ }
+    requires { ⌜ nb ≤ 2097152 ⌝ }
+    ensures { λ r. ⌜ (r .value ≡ percentileOf (powersIn (now (work .entry)) means codes nb class) p)
+        × (r .count ≡ length (powersIn (now (work .entry)) means codes nb class))
+        × (take out (now (work .exit)) ≡ take out (now (work .entry))) ⌝ }
+{
+    let count = gather(work, means, codes, nb, class, out);
+    let past = out + count;
+    let value = percentile(&work[out..past], p);
+    Level { value, count }
+}
