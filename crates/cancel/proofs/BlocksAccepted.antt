@@ -58,9 +58,9 @@ classes-accepted iq-len fs hz step elements element-count fits fit-count places 
     }
 
 -- ---- the list l, once its first part is back with the numbers of the classes
-module _ (class : ℕ → BlockClass) (n blocks : ℕ) (l ys : List Float) (all : blocks ≡ n) (painted : ys ≡ codesOf class n) where
+module _ (class : ℕ → BlockClass) (n blocks : ℕ) (l ys : List Float) (all : blocks ≡ n) (labelled : ys ≡ codesOf class n) where
   back : (k : ℕ) → take blocks (putMid 0 k l ys) ≡ codesOf class n
-  back k = take-at ys (postOf 0 k l) blocks (codes-length class n ys painted ∙ sym all) ∙ painted
+  back k = take-at ys (postOf 0 k l) blocks (codes-length class n ys labelled ∙ sym all) ∙ labelled
 
   classes-handed : length ys ≡ length (midOf 0 (blocks - 0) l) → handedNumbers (putMid 0 (blocks - 0) l ys) blocks ≡ handed 1 (codesOf class n) l
   classes-handed size = numbers-handed l (putMid 0 (blocks - 0) l ys) (codesOf class n) blocks (same-len-mid 0 (blocks - 0) l ys size) (back (blocks - 0))
@@ -80,9 +80,9 @@ pub classes-made : (iq-len : ℕ) (fs : Float) (elements : List Float) (element-
       classes = handed 1 (codesOf (classesGiven iq-len fs elements element-count fits fit-count) (blocksIn iq-len fs)) l;
     })
 unfolding blockClassesOf
-classes-made iq-len fs elements element-count fits fit-count blocks r l ys all painted counted size =
+classes-made iq-len fs elements element-count fits fit-count blocks r l ys all labelled counted size =
     let class = classesGiven iq-len fs elements element-count fits fit-count in
-    rw (classes-handed class (blocksIn iq-len fs) blocks l ys all painted size, classes-counted class (blocksIn iq-len fs) blocks l ys all painted r counted, all)
+    rw (classes-handed class (blocksIn iq-len fs) blocks l ys all labelled size, classes-counted class (blocksIn iq-len fs) blocks l ys all labelled r counted, all)
 
 -- ---- what its promise says of a refusal, and of an accepted call
 

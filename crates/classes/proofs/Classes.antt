@@ -1,4 +1,4 @@
--- A slice that holds the numbers of a row of classes: what painting makes of it, and what `classify_blocks` leaves in
+-- A slice that holds the numbers of a row of classes: what labelling makes of it, and what `classify_blocks` leaves in
 -- it.
 use Prim.Native.Nat.{ℕ, _<_}
 use native.Mathlib.Omega.{arith}
@@ -14,8 +14,8 @@ use Rattle.fits.specs.declared.fit.ElementFit.{ElementFit}
 use Rattle.classes.specs.declared.class.BlockClass.{BlockClass}
 use Rattle.classes.specs.declared.class.BlockClass.the-variants.{Edge, Interior, Gap, Other}
 use Rattle.classes.specs.Class.{codeOf, codesOf}
-use Rattle.classes.specs.Classify.{timesOf, timesOfFit, inTurn, near, inside, atEdge, elementPaints, fitPaints, onRim, classAt, classOf}
-use Rattle.classes.specs.Inner.{painted, elementPainted, fitPainted}
+use Rattle.classes.specs.Classify.{timesOf, timesOfFit, inTurn, near, inside, atEdge, elementLabels, fitLabels, onRim, classAt, classOf}
+use Rattle.classes.specs.Inner.{labelled, elementLabelled, fitLabelled}
 use Rattle.classes.proofs.Turns.{turns-append, turns-map}
 
 -- ---- what such a slice holds
@@ -27,9 +27,9 @@ module _ (f : ℕ → BlockClass) (n : ℕ) (l : List Float) (e : l ≡ codesOf 
   code-at b h = ap (λ (k : List Float). getD k b nan) e ∙ getD-firsts (λ b. codeOf (f b)) n b nan h
 
   -- a class over what is there
-  pub paint-codes : (p : ℕ → Bool) (c : BlockClass) → painted l p (codeOf c) ≡ codesOf (λ b. cond (p b) c (f b)) n
-  unfolding painted
-  paint-codes p c =
+  pub label-codes : (p : ℕ → Bool) (c : BlockClass) → labelled l p (codeOf c) ≡ codesOf (λ b. cond (p b) c (f b)) n
+  unfolding labelled
+  label-codes p c =
       ap (firsts (λ b. cond (p b) (codeOf c) (getD l b nan))) codes-length
       ∙ firsts-cong _ _ n (λ b h. ap (cond (p b) (codeOf c)) (code-at b h) ∙ either (p b) (f b))
     where
@@ -38,43 +38,43 @@ module _ (f : ℕ → BlockClass) (n : ℕ) (l : List Float) (e : l ≡ codesOf 
       either false d = refl
 
 -- ---- one after the other
-pub turns-codes : {A : Type 0} (paints : A → List Float → List Float) (rule : ℕ → A → BlockClass → BlockClass) (n : ℕ)
-    → ((x : A) (l : List Float) (f : ℕ → BlockClass) → l ≡ codesOf f n → paints x l ≡ codesOf (λ b. rule b x (f b)) n)
-    → (xs : List A) (l : List Float) (f : ℕ → BlockClass) → l ≡ codesOf f n → inTurn paints xs l ≡ codesOf (λ b. inTurn (rule b) xs (f b)) n
+pub turns-codes : {A : Type 0} (labels : A → List Float → List Float) (rule : ℕ → A → BlockClass → BlockClass) (n : ℕ)
+    → ((x : A) (l : List Float) (f : ℕ → BlockClass) → l ≡ codesOf f n → labels x l ≡ codesOf (λ b. rule b x (f b)) n)
+    → (xs : List A) (l : List Float) (f : ℕ → BlockClass) → l ≡ codesOf f n → inTurn labels xs l ≡ codesOf (λ b. inTurn (rule b) xs (f b)) n
 unfolding inTurn
-turns-codes paints rule n one [] l f e = e
-turns-codes paints rule n one (x ∷ xs) l f e = turns-codes paints rule n one xs (paints x l) (λ b. rule b x (f b)) (one x l f e)
+turns-codes labels rule n one [] l f e = e
+turns-codes labels rule n one (x ∷ xs) l f e = turns-codes labels rule n one xs (labels x l) (λ b. rule b x (f b)) (one x l f e)
 
 module _ (fs : Float) (n : ℕ) where
   element-codes : (e : KeyedElement) (l : List Float) (f : ℕ → BlockClass) → l ≡ codesOf f n
-      → elementPainted fs e l ≡ codesOf (λ b. elementPaints fs b (timesOf e) (f b)) n
-  unfolding elementPaints
-  element-codes e l f h = paint-codes f n l h (near fs (timesOf e)) Other
+      → elementLabelled fs e l ≡ codesOf (λ b. elementLabels fs b (timesOf e) (f b)) n
+  unfolding elementLabels
+  element-codes e l f h = label-codes f n l h (near fs (timesOf e)) Other
 
-  fit-codes : (e : KeyedElement) (l : List Float) (f : ℕ → BlockClass) → l ≡ codesOf f n → fitPainted fs e l ≡ codesOf (λ b. fitPaints fs b (timesOf e) (f b)) n
-  unfolding fitPaints
+  fit-codes : (e : KeyedElement) (l : List Float) (f : ℕ → BlockClass) → l ≡ codesOf f n → fitLabelled fs e l ≡ codesOf (λ b. fitLabels fs b (timesOf e) (f b)) n
+  unfolding fitLabels
   fit-codes e l f h =
-      paint-codes (λ b. cond (inside fs (timesOf e) b) Interior (f b)) n (painted l (inside fs (timesOf e)) (codeOf Interior))
-      (paint-codes f n l h (inside fs (timesOf e)) Interior) (λ b. atEdge fs (e .start) b || atEdge fs (e .end) b) Edge
+      label-codes (λ b. cond (inside fs (timesOf e) b) Interior (f b)) n (labelled l (inside fs (timesOf e)) (codeOf Interior))
+      (label-codes f n l h (inside fs (timesOf e)) Interior) (λ b. atEdge fs (e .start) b || atEdge fs (e .end) b) Edge
 
 -- ---- the five steps of `classify_blocks`
 module _ (fs : Float) (n : ℕ) (fits : List ElementFit) (elements : List KeyedElement) (l l0 l1 l2 l3 l4 : List Float) (blocks : ℕ) where
-  pub class-by-steps : length l ≡ blocks → l0 ≡ painted l (λ b. true) (codeOf Gap) → l1 ≡ inTurn (λ f. elementPainted fs (f .element)) fits l0
-      → l2 ≡ inTurn (elementPainted fs) elements l1 → l3 ≡ inTurn (λ f. fitPainted fs (f .element)) fits l2 → l4 ≡ painted l3 (onRim fs n) (codeOf Other)
+  pub class-by-steps : length l ≡ blocks → l0 ≡ labelled l (λ b. true) (codeOf Gap) → l1 ≡ inTurn (λ f. elementLabelled fs (f .element)) fits l0
+      → l2 ≡ inTurn (elementLabelled fs) elements l1 → l3 ≡ inTurn (λ f. fitLabelled fs (f .element)) fits l2 → l4 ≡ labelled l3 (onRim fs n) (codeOf Other)
       → l4 ≡ codesOf (classOf fs n fits elements) blocks
-  unfolding painted classAt
+  unfolding labelled classAt
   class-by-steps h e0 e1 e2 e3 e4 =
       let g0 : l0 ≡ codesOf (λ b. Gap) blocks = e0 ∙ ap (firsts (λ b. codeOf Gap)) h in
-      let g1 = e1 ∙ turns-codes _ (λ b f. elementPaints fs b (timesOfFit f)) blocks (λ f. element-codes fs blocks (f .element)) fits l0 (λ b. Gap) g0 in
-      let g2 = e2 ∙ turns-codes _ (λ b e. elementPaints fs b (timesOf e)) blocks (element-codes fs blocks) elements l1 _ g1 in
-      let g3 = e3 ∙ turns-codes _ (λ b f. fitPaints fs b (timesOfFit f)) blocks (λ f. fit-codes fs blocks (f .element)) fits l2 _ g2 in
-      e4 ∙ paint-codes _ blocks l3 g3 (onRim fs n) Other
+      let g1 = e1 ∙ turns-codes _ (λ b f. elementLabels fs b (timesOfFit f)) blocks (λ f. element-codes fs blocks (f .element)) fits l0 (λ b. Gap) g0 in
+      let g2 = e2 ∙ turns-codes _ (λ b e. elementLabels fs b (timesOf e)) blocks (element-codes fs blocks) elements l1 _ g1 in
+      let g3 = e3 ∙ turns-codes _ (λ b f. fitLabels fs b (timesOfFit f)) blocks (λ f. fit-codes fs blocks (f .element)) fits l2 _ g2 in
+      e4 ∙ label-codes _ blocks l3 g3 (onRim fs n) Other
       ∙ firsts-cong _ _ blocks
       (λ b i.
       ap (λ (c : BlockClass). codeOf (cond (onRim fs n b) Other c))
       (sym
-      (turns-map (fitPaints fs b) timesOfFit fits _
-      ∙ ap (inTurn (λ f. fitPaints fs b (timesOfFit f)) fits)
-      (turns-append (elementPaints fs b) (map timesOfFit fits) (map timesOf elements) Gap
-      ∙ turns-map (elementPaints fs b) timesOf elements _
-      ∙ ap (inTurn (λ e. elementPaints fs b (timesOf e)) elements) (turns-map (elementPaints fs b) timesOfFit fits Gap)))))
+      (turns-map (fitLabels fs b) timesOfFit fits _
+      ∙ ap (inTurn (λ f. fitLabels fs b (timesOfFit f)) fits)
+      (turns-append (elementLabels fs b) (map timesOfFit fits) (map timesOf elements) Gap
+      ∙ turns-map (elementLabels fs b) timesOf elements _
+      ∙ ap (inTurn (λ e. elementLabels fs b (timesOf e)) elements) (turns-map (elementLabels fs b) timesOfFit fits Gap)))))

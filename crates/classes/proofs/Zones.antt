@@ -11,8 +11,8 @@ use Rattle.row.specs.Window.{windowOf}
 use Rattle.classes.specs.declared.class.BlockClass.the-variants.{Edge, Interior, Other}
 use Rattle.classes.specs.Class.{codeOf}
 use Rattle.classes.specs.Classify.{Times, blockCentre, inRange, near, inside, atEdge, onRim}
-use Rattle.classes.specs.Inner.{painted, amid}
-use Rattle.classes.proofs.Painted.{painted-cong, painted-nowhere}
+use Rattle.classes.specs.Inner.{labelled, amid}
+use Rattle.classes.proofs.Labelled.{labelled-cong, labelled-nowhere}
 
 -- RISE_S, EDGE_ZONE_S, RIM_S, 3.0 and 4.0
 abbrev rise : Float
@@ -40,30 +40,30 @@ four-is = refl
 
 module _ (fs : Float) (len : ℕ) (w : len ≡ windowOf fs) (l cur : List Float) (x : Float) where
   pub near-is : (t : Times) → x ≡ codeOf Other
-      → cur ≡ painted l (inRange len (t .start ⊖ three ⊗ (rise ⊗ fs)) (t .end ⊕ three ⊗ (rise ⊗ fs))) x → cur ≡ painted l (near fs t) (codeOf Other)
+      → cur ≡ labelled l (inRange len (t .start ⊖ three ⊗ (rise ⊗ fs)) (t .end ⊕ three ⊗ (rise ⊗ fs))) x → cur ≡ labelled l (near fs t) (codeOf Other)
   unfolding near
-  near-is t h c = rw (← h) (c ∙ painted-cong l x _ (near fs t) (λ b g. rw (three-is, rise-bits, ← w)))
+  near-is t h c = rw (← h) (c ∙ labelled-cong l x _ (near fs t) (λ b g. rw (three-is, rise-bits, ← w)))
 
-  pub edge-is : (t : Float) → x ≡ codeOf Edge → cur ≡ painted l (inRange len (t ⊖ zone ⊗ fs) (t ⊕ zone ⊗ fs)) x → cur ≡ painted l (atEdge fs t) (codeOf Edge)
+  pub edge-is : (t : Float) → x ≡ codeOf Edge → cur ≡ labelled l (inRange len (t ⊖ zone ⊗ fs) (t ⊕ zone ⊗ fs)) x → cur ≡ labelled l (atEdge fs t) (codeOf Edge)
   unfolding atEdge
-  edge-is t h c = rw (← h) (c ∙ painted-cong l x _ (atEdge fs t) (λ b g. rw (edge-zone-bits, ← w)))
+  edge-is t h c = rw (← h) (c ∙ labelled-cong l x _ (atEdge fs t) (λ b g. rw (edge-zone-bits, ← w)))
 
   pub inside-is : (t : Times) → lt (four ⊗ (rise ⊗ fs)) (t .end ⊖ t .start) ≡ true → x ≡ codeOf Interior
-      → cur ≡ painted l (amid len (t .start ⊕ two ⊗ (rise ⊗ fs)) (t .end ⊖ two ⊗ (rise ⊗ fs))) x → cur ≡ painted l (inside fs t) (codeOf Interior)
+      → cur ≡ labelled l (amid len (t .start ⊕ two ⊗ (rise ⊗ fs)) (t .end ⊖ two ⊗ (rise ⊗ fs))) x → cur ≡ labelled l (inside fs t) (codeOf Interior)
   unfolding inside amid
   inside-is t long h c =
       rw (← h)
       (c
-      ∙ painted-cong l x _ (inside fs t)
+      ∙ labelled-cong l x _ (inside fs t)
       (λ b g.
       let lo = t .start ⊕ two ⊗ (rise ⊗ fs) in
       let hi = t .end ⊖ two ⊗ (rise ⊗ fs) in
       rw (four-is, rise-bits, ← w, long, and-assoc (inRange len lo hi b) (lt lo (blockCentre len b)) (lt (blockCentre len b) hi))))
 
 -- an element that is too short has no interior
-pub inside-none : (fs : Float) (l : List Float) (t : Times) → lt (four ⊗ (rise ⊗ fs)) (t .end ⊖ t .start) ≡ false → l ≡ painted l (inside fs t) (codeOf Interior)
+pub inside-none : (fs : Float) (l : List Float) (t : Times) → lt (four ⊗ (rise ⊗ fs)) (t .end ⊖ t .start) ≡ false → l ≡ labelled l (inside fs t) (codeOf Interior)
 unfolding inside
-inside-none fs l t short = painted-nowhere l (codeOf Interior) (inside fs t) (λ b h. rw (four-is, rise-bits, short))
+inside-none fs l t short = labelled-nowhere l (codeOf Interior) (inside fs t) (λ b h. rw (four-is, rise-bits, short))
 
 -- ---- the tests of a block's centre: c as the code computes it, k as the rule has it
 module _ (lo hi c k : Float) (e : c ≡ k) where

@@ -51,10 +51,10 @@ module _ (len : ℕ) where
   unfoldable pub inRange : Float → Float → ℕ → Bool
   inRange lo hi b = leb (firstFrom lo) b && ltb b (pastLast hi)
 
--- Each of a list in turn paints over what is there.
+-- Each of a list in turn has its word on what is there; the last one stays.
 unfoldable pub inTurn : {A B : Type 0} → (A → B → B) → List A → B → B
-inTurn paints [] b = b
-inTurn paints (x ∷ xs) b = inTurn paints xs (paints x b)
+inTurn labels [] b = b
+inTurn labels (x ∷ xs) b = inTurn labels xs (labels x b)
 
 module _ (fs : Float) where
   -- within three rises of an element: no gap
@@ -74,13 +74,13 @@ module _ (fs : Float) where
   unfoldable pub atEdge : Float → ℕ → Bool
   atEdge x b = inRange (windowOf fs) (x ⊖ EDGE_ZONE_S ⊗ fs) (x ⊕ EDGE_ZONE_S ⊗ fs) b
 
-  -- an element paints Other
-  unfoldable pub elementPaints : ℕ → Times → BlockClass → BlockClass
-  elementPaints b t c = cond (near t b) Other c
+  -- near an element a block is Other
+  unfoldable pub elementLabels : ℕ → Times → BlockClass → BlockClass
+  elementLabels b t c = cond (near t b) Other c
 
-  -- a fit paints its interior, and then its two edges
-  unfoldable pub fitPaints : ℕ → Times → BlockClass → BlockClass
-  fitPaints b t c = cond (atEdge (t .start) b || atEdge (t .end) b) Edge (cond (inside t b) Interior c)
+  -- a fit labels its interior, and then its two edges
+  unfoldable pub fitLabels : ℕ → Times → BlockClass → BlockClass
+  fitLabels b t c = cond (atEdge (t .start) b || atEdge (t .end) b) Edge (cond (inside t b) Interior c)
 
   -- the rim: within RIM_S of an end of n samples
   unfoldable pub onRim : ℕ → ℕ → Bool
@@ -89,10 +89,10 @@ module _ (fs : Float) where
       lt centre (RIM_S ⊗ fs) || lt (of n ⊖ RIM_S ⊗ fs) centre
 
   -- The class of block b of n samples, by the times of the fits' elements and of the elements found: over Gap, all
-  -- elements paint first, then the fits, and the rim comes last.
+  -- elements label first, then the fits, and the rim comes last.
   unfoldable pub classAt : ℕ → List Times → List Times → ℕ → BlockClass
   classAt n fitted found b =
-      cond (onRim n b) Other (inTurn (fitPaints b) fitted (inTurn (elementPaints b) (fitted ++ found) Gap))
+      cond (onRim n b) Other (inTurn (fitLabels b) fitted (inTurn (elementLabels b) (fitted ++ found) Gap))
 
 -- the same of an estimate
 abbrev pub classOf : Float → ℕ → List ElementFit → List KeyedElement → ℕ → BlockClass

@@ -14,8 +14,8 @@ use Rattle.classes.specs.Class.{codeOf}
 use Rattle.classes.specs.Classify.{Times, timesOf, timesOfFit, blockCentre, inRange, near, inside, atEdge}
 
 -- a list with x at each place that passes a test
-unfoldable pub painted : List Float → (ℕ → Bool) → Float → List Float
-painted l p x = firsts (λ b. cond (p b) x (getD l b nan)) (length l)
+unfoldable pub labelled : List Float → (ℕ → Bool) → Float → List Float
+labelled l p x = firsts (λ b. cond (p b) x (getD l b nan)) (length l)
 
 -- the test of those places from a up to, not including, e
 abbrev pub between : ℕ → ℕ → (ℕ → Bool) → ℕ → Bool
@@ -27,9 +27,9 @@ amid len lo hi b = inRange len lo hi b && (lt lo (blockCentre len b) && lt (bloc
 
 module _ (fs : Float) where
   -- what an element, and a fit, leave in the list
-  abbrev pub elementPainted : KeyedElement → List Float → List Float
-  elementPainted e l = painted l (near fs (timesOf e)) (codeOf Other)
+  abbrev pub elementLabelled : KeyedElement → List Float → List Float
+  elementLabelled e l = labelled l (near fs (timesOf e)) (codeOf Other)
 
-  abbrev pub fitPainted : KeyedElement → List Float → List Float
-  fitPainted e l =
-      painted (painted l (inside fs (timesOf e)) (codeOf Interior)) (λ b. atEdge fs (e .start) b || atEdge fs (e .end) b) (codeOf Edge)
+  abbrev pub fitLabelled : KeyedElement → List Float → List Float
+  fitLabelled e l =
+      labelled (labelled l (inside fs (timesOf e)) (codeOf Interior)) (λ b. atEdge fs (e .start) b || atEdge fs (e .end) b) (codeOf Edge)

@@ -18,7 +18,7 @@ ghost use Rattle.fits.specs.List.{fitsIn};
 ghost use Rattle.classes.specs.declared.class.BlockClass.the-variants.{Edge, Interior, Other};
 ghost use Rattle.classes.specs.Class.{codeOf, codesOf};
 ghost use Rattle.classes.specs.Classify.{timesOf, blocksOf, firstFrom, pastLast, inRange, inside, atEdge, onRim, inTurn, classOf, countIn, countsIn};
-ghost use Rattle.classes.specs.Inner.{painted, amid, elementPainted, fitPainted};
+ghost use Rattle.classes.specs.Inner.{labelled, amid, elementLabelled, fitLabelled};
 
 // How many blocks have each class.
 pub struct ClassCounts {
@@ -54,8 +54,8 @@ fn lesser(a: usize, b: usize) -> usize
 }
 
 // Rust: `vec![BlockClass::Gap; blocks]`.
-fn paint_all(x: f64, class: &mut [f64])
-    ensures { λ _. ⌜ now (class .exit) ≡ painted (now (class .entry)) (λ b. true) x ⌝ }
+fn label_all(x: f64, class: &mut [f64])
+    ensures { λ _. ⌜ now (class .exit) ≡ labelled (now (class .entry)) (λ b. true) x ⌝ }
 {
     let n = class.len();
     for b in 0..n {
@@ -64,9 +64,9 @@ fn paint_all(x: f64, class: &mut [f64])
 }
 
 // Rust: `range` and the loop over it. Only its end can lie past the blocks: from a start past them it is empty.
-fn paint_range(len: usize, lo: f64, hi: f64, x: f64, class: &mut [f64])
+fn label_range(len: usize, lo: f64, hi: f64, x: f64, class: &mut [f64])
     requires { ⌜ len ≤ 512 ⌝ }
-    ensures { λ _. ⌜ now (class .exit) ≡ painted (now (class .entry)) (inRange len lo hi) x ⌝ }
+    ensures { λ _. ⌜ now (class .exit) ≡ labelled (now (class .entry)) (inRange len lo hi) x ⌝ }
 {
     let a = first_from(len, lo);
     let e = lesser(past_last(len, hi), class.len());
@@ -76,10 +76,10 @@ fn paint_range(len: usize, lo: f64, hi: f64, x: f64, class: &mut [f64])
 }
 
 // Rust: the loop over the blocks of an interior. The half of the window is computed once.
-fn paint_amid(len: usize, lo: f64, hi: f64, x: f64, class: &mut [f64])
+fn label_amid(len: usize, lo: f64, hi: f64, x: f64, class: &mut [f64])
     requires { ⌜ len ≤ 512 ⌝ }
     requires { ⌜ length (now class) ≤ 131072 ⌝ }
-    ensures { λ _. ⌜ now (class .exit) ≡ painted (now (class .entry)) (amid len lo hi) x ⌝ }
+    ensures { λ _. ⌜ now (class .exit) ≡ labelled (now (class .entry)) (amid len lo hi) x ⌝ }
 {
     let a = first_from(len, lo);
     let e = lesser(past_last(len, hi), class.len());
@@ -93,38 +93,38 @@ fn paint_amid(len: usize, lo: f64, hi: f64, x: f64, class: &mut [f64])
 }
 
 // Rust: the loop over the elements, of one.
-fn paint_element(fs: f64, len: usize, e: KeyedElement, class: &mut [f64])
+fn label_element(fs: f64, len: usize, e: KeyedElement, class: &mut [f64])
     requires { ⌜ Rate fs ⌝ }
     requires { ⌜ len ≡ windowOf fs ⌝ }
-    ensures { λ _. ⌜ now (class .exit) ≡ elementPainted fs e (now (class .entry)) ⌝ }
+    ensures { λ _. ⌜ now (class .exit) ≡ elementLabelled fs e (now (class .entry)) ⌝ }
 {
     let r = RISE_S * fs;
     let x = code(BlockClass::Other);
-    paint_range(len, e.start - 3.0 * r, e.end + 3.0 * r, x, class);
+    label_range(len, e.start - 3.0 * r, e.end + 3.0 * r, x, class);
 }
 
 // Rust: the first half of the loop over the fits, of one.
-fn paint_interior(fs: f64, len: usize, e: KeyedElement, class: &mut [f64])
+fn label_interior(fs: f64, len: usize, e: KeyedElement, class: &mut [f64])
     requires { ⌜ Rate fs ⌝ }
     requires { ⌜ len ≡ windowOf fs ⌝ }
     requires { ⌜ length (now class) ≤ 131072 ⌝ }
-    ensures { λ _. ⌜ now (class .exit) ≡ painted (now (class .entry)) (inside fs (timesOf e)) (codeOf Interior) ⌝ }
+    ensures { λ _. ⌜ now (class .exit) ≡ labelled (now (class .entry)) (inside fs (timesOf e)) (codeOf Interior) ⌝ }
 {
     let r = RISE_S * fs;
     if e.end - e.start > 4.0 * r {
         let x = code(BlockClass::Interior);
-        paint_amid(len, e.start + 2.0 * r, e.end - 2.0 * r, x, class);
+        label_amid(len, e.start + 2.0 * r, e.end - 2.0 * r, x, class);
     }
 }
 
 // Rust: the loop over `[s, e]`, of one edge.
-fn paint_edge(fs: f64, len: usize, edge: f64, class: &mut [f64])
+fn label_edge(fs: f64, len: usize, edge: f64, class: &mut [f64])
     requires { ⌜ Rate fs ⌝ }
     requires { ⌜ len ≡ windowOf fs ⌝ }
-    ensures { λ _. ⌜ now (class .exit) ≡ painted (now (class .entry)) (atEdge fs edge) (codeOf Edge) ⌝ }
+    ensures { λ _. ⌜ now (class .exit) ≡ labelled (now (class .entry)) (atEdge fs edge) (codeOf Edge) ⌝ }
 {
     let x = code(BlockClass::Edge);
-    paint_range(
+    label_range(
         len,
         edge - EDGE_ZONE_S * fs,
         edge + EDGE_ZONE_S * fs,
@@ -134,64 +134,64 @@ fn paint_edge(fs: f64, len: usize, edge: f64, class: &mut [f64])
 }
 
 // Rust: the loop over the fits, of one.
-fn paint_fit(fs: f64, len: usize, e: KeyedElement, class: &mut [f64])
+fn label_fit(fs: f64, len: usize, e: KeyedElement, class: &mut [f64])
     requires { ⌜ Rate fs ⌝ }
     requires { ⌜ len ≡ windowOf fs ⌝ }
     requires { ⌜ length (now class) ≤ 131072 ⌝ }
-    ensures { λ _. ⌜ now (class .exit) ≡ fitPainted fs e (now (class .entry)) ⌝ }
+    ensures { λ _. ⌜ now (class .exit) ≡ fitLabelled fs e (now (class .entry)) ⌝ }
 {
-    paint_interior(fs, len, e, class);
-    paint_edge(fs, len, e.start, class);
-    paint_edge(fs, len, e.end, class);
+    label_interior(fs, len, e, class);
+    label_edge(fs, len, e.start, class);
+    label_edge(fs, len, e.end, class);
 }
 
 // Rust: the loop over the elements, of those found.
-fn paint_elements(fs: f64, len: usize, elements: &[f64], count: usize, class: &mut [f64])
+fn label_elements(fs: f64, len: usize, elements: &[f64], count: usize, class: &mut [f64])
     requires { ⌜ Rate fs ⌝ }
     requires { ⌜ len ≡ windowOf fs ⌝ }
     requires { ⌜ 4 * count ≤ length (now elements) ⌝ }
-    ensures { λ _. ⌜ now (class .exit) ≡ inTurn (elementPainted fs) (elementsIn (now (elements .entry)) count) (now (class .entry)) ⌝ }
+    ensures { λ _. ⌜ now (class .exit) ≡ inTurn (elementLabelled fs) (elementsIn (now (elements .entry)) count) (now (class .entry)) ⌝ }
 {
     for k in 0..count {
         let e = element_at(elements, k);
-        paint_element(fs, len, e, class);
+        label_element(fs, len, e, class);
     }
 }
 
 // Rust: the loop over the elements, of those of the fits.
-fn paint_fitted(fs: f64, len: usize, fits: &[f64], count: usize, class: &mut [f64])
+fn label_fitted(fs: f64, len: usize, fits: &[f64], count: usize, class: &mut [f64])
     requires { ⌜ Rate fs ⌝ }
     requires { ⌜ len ≡ windowOf fs ⌝ }
     requires { ⌜ 8 * count ≤ length (now fits) ⌝ }
-    ensures { λ _. ⌜ now (class .exit) ≡ inTurn (λ f. elementPainted fs (f .element)) (fitsIn (now (fits .entry)) count) (now (class .entry)) ⌝ }
+    ensures { λ _. ⌜ now (class .exit) ≡ inTurn (λ f. elementLabelled fs (f .element)) (fitsIn (now (fits .entry)) count) (now (class .entry)) ⌝ }
 {
     for k in 0..count {
         let f = fit_at(fits, k);
-        paint_element(fs, len, f.element, class);
+        label_element(fs, len, f.element, class);
     }
 }
 
 // Rust: the loop over the fits.
-fn paint_fits(fs: f64, len: usize, fits: &[f64], count: usize, class: &mut [f64])
+fn label_fits(fs: f64, len: usize, fits: &[f64], count: usize, class: &mut [f64])
     requires { ⌜ Rate fs ⌝ }
     requires { ⌜ len ≡ windowOf fs ⌝ }
     requires { ⌜ 8 * count ≤ length (now fits) ⌝ }
     requires { ⌜ length (now class) ≤ 131072 ⌝ }
-    ensures { λ _. ⌜ now (class .exit) ≡ inTurn (λ f. fitPainted fs (f .element)) (fitsIn (now (fits .entry)) count) (now (class .entry)) ⌝ }
+    ensures { λ _. ⌜ now (class .exit) ≡ inTurn (λ f. fitLabelled fs (f .element)) (fitsIn (now (fits .entry)) count) (now (class .entry)) ⌝ }
 {
     for k in 0..count {
         let f = fit_at(fits, k);
-        paint_fit(fs, len, f.element, class);
+        label_fit(fs, len, f.element, class);
     }
 }
 
 // Rust: the last loop.
-fn paint_rim(fs: f64, len: usize, n: usize, class: &mut [f64])
+fn label_rim(fs: f64, len: usize, n: usize, class: &mut [f64])
     requires { ⌜ Rate fs ⌝ }
     requires { ⌜ len ≡ windowOf fs ⌝ }
     requires { ⌜ n ≤ 1048576 ⌝ }
     requires { ⌜ length (now class) ≤ 131072 ⌝ }
-    ensures { λ _. ⌜ now (class .exit) ≡ painted (now (class .entry)) (onRim fs n) (codeOf Other) ⌝ }
+    ensures { λ _. ⌜ now (class .exit) ≡ labelled (now (class .entry)) (onRim fs n) (codeOf Other) ⌝ }
 {
     let rim = RIM_S * fs;
     let last = float::exact(n) - rim;
@@ -226,11 +226,11 @@ pub fn classify_blocks(
 {
     let len = 8 * row::edge_step(fs);
     let gap = code(BlockClass::Gap);
-    paint_all(gap, class);
-    paint_fitted(fs, len, fits, fit_count, class);
-    paint_elements(fs, len, elements, element_count, class);
-    paint_fits(fs, len, fits, fit_count, class);
-    paint_rim(fs, len, n, class);
+    label_all(gap, class);
+    label_fitted(fs, len, fits, fit_count, class);
+    label_elements(fs, len, elements, element_count, class);
+    label_fits(fs, len, fits, fit_count, class);
+    label_rim(fs, len, n, class);
 }
 
 // How many blocks have the class c, in a slice that holds the number of each block's class.

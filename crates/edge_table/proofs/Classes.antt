@@ -25,7 +25,7 @@ use Rattle.classes.specs.declared.class.BlockClass.{BlockClass}
 use Rattle.classes.specs.declared.class.BlockClass.the-variants.{Edge, Interior, Gap, Other}
 use Rattle.classes.specs.Class.{isClass}
 use Rattle.classes.proofs.Codes.{class-same}
-use Rattle.classes.specs.Classify.{Times, timesOf, timesOfFit, blocksOf, blockCentre, firstFrom, pastLast, inRange, inTurn, near, inside, atEdge, elementPaints, fitPaints, onRim, classAt, classOf, countsOf}
+use Rattle.classes.specs.Classify.{Times, timesOf, timesOfFit, blocksOf, blockCentre, firstFrom, pastLast, inRange, inTurn, near, inside, atEdge, elementLabels, fitLabels, onRim, classAt, classOf, countsOf}
 use Rattle.edge_table.specs.Table.{fs, tabled, Classes}
 
 -- from 1499.5 to 1599.5, at 3,000 samples a second
@@ -115,7 +115,7 @@ rim-so b h =
     rw (step-3000, rim-ends .0, rim-ends .1)
     (same _ _ (every-at (λ b. Bool·beq (lt (blockCentre 8 b) low || lt high (blockCentre 8 b)) (ltb b 75 || leb 300 b)) 375 b h rim-all))
 
--- ---- the classes: as the zones paint them, and as the table has them
+-- ---- the classes: as the zones label them, and as the table has them
 abbrev zoned : ℕ → BlockClass
 zoned b =
     cond (ltb b 75 || leb 300 b) Other
@@ -135,11 +135,11 @@ counts-all = refl
 module _ (b : ℕ) (h : b < 375) where
   -- with no element found, and with the fit's own
   unfound : classAt fs 3000 (times ∷ []) [] b ≡ zoned b
-  unfolding classAt inTurn elementPaints fitPaints
+  unfolding classAt inTurn elementLabels fitLabels
   unfound = rw (rim-so b h, near-so b, inside-so b, start-so b, end-so b)
 
   found : classAt fs 3000 (times ∷ []) (times ∷ []) b ≡ zoned b
-  unfolding classAt inTurn elementPaints fitPaints
+  unfolding classAt inTurn elementLabels fitLabels
   found = rw (rim-so b h, near-so b, inside-so b, start-so b, end-so b, twice (leb 182 b && ltb b 206))
     where
       twice : (t : Bool) → cond t Other (cond t Other Gap) ≡ cond t Other Gap

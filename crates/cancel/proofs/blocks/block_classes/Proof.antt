@@ -1,5 +1,5 @@
 -- `cancel::block_classes` meets its contract: the first no is the answer, and where there is none, the classes that the
--- work below paints. Assumes nothing.
+-- work below labels. Assumes nothing.
 use mathlib.Core.List.{[], _∷_}
 use native.Mathlib.Omega.{arith}
 use mathlib.Core.Path.{sym, _∙_}
@@ -44,11 +44,11 @@ returns-2 : tie.Need-returns-2
 unfolding classesRule
 returns-2 c =
     let lent = c .before .before .before .before in
-    let painted = lent .before in
-    let counted = painted .before .before in
+    let labelled = lent .before in
+    let counted = labelled .before .before in
     let s = counted .before .before .before .before .before .before in
     accepts _ _ (now (s .args .classes) ∷ []) _ _ (counted .before .before .classes-no .ensures) (counted .before .if1 .left)
-    (classes-made (s .args .iq-len) (s .args .fs) (now (s .args .elements)) (s .args .element-count) (now (s .args .fits)) (s .args .fit-count) _ _ (now (s .args .classes)) _ (counted .window-blocks .ensures) (painted .classify-blocks .ensures) (c .count-classes .ensures) (lent .classes .given .0))
+    (classes-made (s .args .iq-len) (s .args .fs) (now (s .args .elements)) (s .args .element-count) (now (s .args .fits)) (s .args .fit-count) _ _ (now (s .args .classes)) _ (counted .window-blocks .ensures) (labelled .classify-blocks .ensures) (c .count-classes .ensures) (lent .classes .given .0))
 
 pub block-classes-spec : {M : Type 1} → statement M
 block-classes-spec =

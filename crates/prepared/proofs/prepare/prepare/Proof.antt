@@ -44,9 +44,9 @@ classify-blocks-requires c κs =
 
 returns : tie.Need-returns
 returns c =
-    let painted = c .before .before in
-    let means = painted .before .before .before .before in
-    made _ _ _ _ _ _ _ _ _ (known means) (means .before .before .edge-step .ensures) (means .block-means .ensures .1) (painted .classify-blocks .ensures) (c .before .work2 .given .0)
+    let labelled = c .before .before in
+    let means = labelled .before .before .before .before in
+    made _ _ _ _ _ _ _ _ _ (known means) (means .before .before .edge-step .ensures) (means .block-means .ensures .1) (labelled .classify-blocks .ensures) (c .before .work2 .given .0)
 
 pub prepare-spec : {M : Type 1} → statement M
 prepare-spec =

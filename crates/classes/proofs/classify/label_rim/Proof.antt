@@ -4,17 +4,17 @@ use mathlib.Core.Path.{_≡_, ap, _∙_}
 use mathlib.Core.Logic.{⊎-elim}
 use lib.ListN.{length, length-set}
 use Rattle.classes.specs.Classify.{onRim}
-use Rattle.classes.specs.Inner.{painted, between}
-use Rattle.classes.proofs.Painted.{paint-none, paint-yes, paint-no, paint-everywhere}
+use Rattle.classes.specs.Inner.{labelled, between}
+use Rattle.classes.proofs.Labelled.{label-none, label-yes, label-no, label-everywhere}
 use Rattle.classes.proofs.Zones.{rim-is}
 use Rattle.classes.proofs.Sizes.{window-small, window-exact, first-fits, first-exact, centre-is}
 use borrow.Author.Needs.{needs}
-use Rattle.classes.proofs.classify.paint_rim.Statement.{statement}
-use Rattle.classes.proofs.classify.paint_rim.Tie as tie
+use Rattle.classes.proofs.classify.label_rim.Statement.{statement}
+use Rattle.classes.proofs.classify.label_rim.Tie as tie
 
 abbrev Inv-loop : tie.InvT-loop
 Inv-loop fs len n class₀ rim last half x blocks b₀ class b =
-    (b ≤ blocks) × (length class ≡ length class₀) × (class ≡ painted class₀ (between 0 b (onRim fs n)) x)
+    (b ≤ blocks) × (length class ≡ length class₀) × (class ≡ labelled class₀ (between 0 b (onRim fs n)) x)
 
 abbrev μ-loop : tie.MeasureT-loop
 μ-loop fs len n class₀ rim last half x blocks b₀ class b = blocks - b
@@ -41,18 +41,18 @@ loop-again c =
     (λ w. (
       search needs,
       ap length (w .1) ∙ simp length-set (inv .1),
-      w .1 ∙ paint-yes _ _ _ _ _ _ (inv .2) (search needs) (search needs) (⊎-elim (λ v. rim .0 (v .taken)) (λ v. rim .1 (v .1 .taken)) (w .0 .came)),
+      w .1 ∙ label-yes _ _ _ _ _ _ (inv .2) (search needs) (search needs) (⊎-elim (λ v. rim .0 (v .taken)) (λ v. rim .1 (v .1 .taken)) (w .0 .came)),
     ))
-    (λ w. (search needs, ap length (w .2) ∙ inv .1, w .2 ∙ paint-no _ _ _ _ _ _ (inv .2) (rim .2 (w .0 .left) (w .1 .left))))
+    (λ w. (search needs, ap length (w .2) ∙ inv .1, w .2 ∙ label-no _ _ _ _ _ _ (inv .2) (rim .2 (w .0 .left) (w .1 .left))))
     (c .if1 .came)
 
 returns : tie.Need-returns Inv-loop μ-loop
 returns c =
     let loop = c .before in
-    rw (loop .before .code .ensures) at (paint-everywhere _ _ _ _ _ (loop .loop .inv .2) (search needs))
+    rw (loop .before .code .ensures) at (label-everywhere _ _ _ _ _ (loop .loop .inv .2) (search needs))
 
-pub paint-rim-spec : {M : Type 1} → statement M
-paint-rim-spec =
+pub label-rim-spec : {M : Type 1} → statement M
+label-rim-spec =
     tie.close
     (tie.spec
     Inv-loop
@@ -60,7 +60,7 @@ paint-rim-spec =
     (λ c κs. search needs)
     exact-requires-2
     (λ c κs. search needs)
-    (λ c. search (needs, paint-none))
+    (λ c. search (needs, label-none))
     mul-exact
     exact-requires-3
     (λ c. search needs)

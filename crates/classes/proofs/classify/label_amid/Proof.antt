@@ -6,18 +6,18 @@ use mathlib.Core.Logic.{⊎-elim}
 use lib.ListN.{length, length-set}
 use lib.Ieee.{lt}
 use Rattle.classes.specs.Classify.{blockCentre}
-use Rattle.classes.specs.Inner.{painted, between, amid}
-use Rattle.classes.proofs.Painted.{paint-none, paint-yes, paint-no, paint-range}
+use Rattle.classes.specs.Inner.{labelled, between, amid}
+use Rattle.classes.proofs.Labelled.{label-none, label-yes, label-no, label-range}
 use Rattle.classes.proofs.Zones.{amid-yes, amid-not-below, amid-not-above}
 use Rattle.classes.proofs.Sizes.{first-fits, first-exact, centre-is}
 use borrow.Author.Needs.{needs}
-use Rattle.classes.proofs.classify.paint_amid.Statement.{statement}
-use Rattle.classes.proofs.classify.paint_amid.Tie as tie
+use Rattle.classes.proofs.classify.label_amid.Statement.{statement}
+use Rattle.classes.proofs.classify.label_amid.Tie as tie
 
 abbrev Inv-loop : tie.InvT-loop
 Inv-loop len lo hi x class₀ a e half b₀ class b =
     (a ≤ b) × (b - a ≤ e - a) × (length class ≡ length class₀)
-    × (class ≡ painted class₀ (between a b (λ k. lt lo (blockCentre len k) && lt (blockCentre len k) hi)) x)
+    × (class ≡ labelled class₀ (between a b (λ k. lt lo (blockCentre len k) && lt (blockCentre len k) hi)) x)
 
 abbrev μ-loop : tie.MeasureT-loop
 μ-loop len lo hi x class₀ a e half b₀ class b = e - b
@@ -39,9 +39,9 @@ loop-again c =
       search needs,
       search needs,
       ap length (w .2) ∙ simp length-set (inv .2),
-      w .2 ∙ paint-yes _ _ _ _ _ _ (inv .3) (inv .0) (search needs) (amid-yes _ _ _ _ centre (w .0 .taken) (w .1 .taken)),
+      w .2 ∙ label-yes _ _ _ _ _ _ (inv .3) (inv .0) (search needs) (amid-yes _ _ _ _ centre (w .0 .taken) (w .1 .taken)),
     ))
-    (λ w. (search needs, search needs, ap length (w .1) ∙ inv .2, w .1 ∙ paint-no _ _ _ _ _ _ (inv .3) (⊎-elim (λ v. amid-not-below _ _ _ _ centre (v .1 .left)) (λ v. amid-not-above _ _ _ _ centre (v .left)) (w .0 .came))))
+    (λ w. (search needs, search needs, ap length (w .1) ∙ inv .2, w .1 ∙ label-no _ _ _ _ _ _ (inv .3) (⊎-elim (λ v. amid-not-below _ _ _ _ centre (v .1 .left)) (λ v. amid-not-above _ _ _ _ centre (v .left)) (w .0 .came))))
     (c .if1 .came)
 
 returns : tie.Need-returns Inv-loop μ-loop
@@ -49,11 +49,11 @@ unfolding amid
 returns c =
     let loop = c .before in
     let ended = loop .before .before in
-    paint-range _ _ _ _ _ _ _ _ _ _ _ (ended .before .before .first-from .ensures) (rw (ended .before .past-last .ensures) at (ended .lesser .ensures)) (loop .loop .inv .3)
+    label-range _ _ _ _ _ _ _ _ _ _ _ (ended .before .before .first-from .ensures) (rw (ended .before .past-last .ensures) at (ended .lesser .ensures)) (loop .loop .inv .3)
     (search needs) (loop .loop .inv .1) (λ b. refl)
 
-pub paint-amid-spec : {M : Type 1} → statement M
-paint-amid-spec =
+pub label-amid-spec : {M : Type 1} → statement M
+label-amid-spec =
     tie.close
     (tie.spec
     Inv-loop
@@ -62,7 +62,7 @@ paint-amid-spec =
     (λ c κs. search needs)
     (λ c κs. search needs)
     (λ c κs. search needs)
-    (λ c. search (needs, paint-none))
+    (λ c. search (needs, label-none))
     mul-exact
     exact-requires-2
     (λ c. search needs)

@@ -1,18 +1,18 @@
--- The invariant: the first k elements have painted.
+-- The invariant: the first k elements have labelled.
 use Prim.Native.Nat.{_≤_, _-_}
 use mathlib.Core.Path.{_≡_}
 use lib.ListN.{length}
 use Rattle.elements.specs.Element.{elementsIn}
 use Rattle.classes.specs.Classify.{inTurn}
-use Rattle.classes.specs.Inner.{elementPainted}
+use Rattle.classes.specs.Inner.{elementLabelled}
 use Rattle.classes.proofs.Turns.{turns-none, turns-next, turns-done}
 use borrow.Author.Needs.{needs}
-use Rattle.classes.proofs.classify.paint_elements.Statement.{statement}
-use Rattle.classes.proofs.classify.paint_elements.Tie as tie
+use Rattle.classes.proofs.classify.label_elements.Statement.{statement}
+use Rattle.classes.proofs.classify.label_elements.Tie as tie
 
 abbrev Inv-loop : tie.InvT-loop
 Inv-loop fs len elements count class₀ k₀ class k =
-    (k ≤ count) × (length class ≡ length class₀) × (class ≡ inTurn (elementPainted fs) (elementsIn elements k) class₀)
+    (k ≤ count) × (length class ≡ length class₀) × (class ≡ inTurn (elementLabelled fs) (elementsIn elements k) class₀)
 
 abbrev μ-loop : tie.MeasureT-loop
 μ-loop fs len elements count class₀ k₀ class k = count - k
@@ -24,17 +24,17 @@ loop-holds c = (search needs, search needs, turns-none _ _ _)
 loop-again : tie.Need-loop-again Inv-loop μ-loop
 unfolding elementsIn
 loop-again c =
-    let painted = c .before .before in
-    let got = painted .before .before in
+    let labelled = c .before .before in
+    let got = labelled .before .before in
     let inv = got .before .before .loop .inv in
-    (search needs, search needs, turns-next _ _ _ _ _ _ _ (inv .2) (got .element-at .ensures) (painted .paint-element .ensures))
+    (search needs, search needs, turns-next _ _ _ _ _ _ _ (inv .2) (got .element-at .ensures) (labelled .label-element .ensures))
 
 returns : tie.Need-returns Inv-loop μ-loop
 unfolding elementsIn
 returns c = let loop = c .before in turns-done _ _ _ _ _ _ (loop .loop .inv .2) (search needs) (search needs)
 
-pub paint-elements-spec : {M : Type 1} → statement M
-paint-elements-spec =
+pub label-elements-spec : {M : Type 1} → statement M
+label-elements-spec =
     tie.close
     (tie.spec
     Inv-loop
