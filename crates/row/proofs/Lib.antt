@@ -12,8 +12,8 @@
 --             many amplitudes: `row-none`, `row-some`
 -- Bounds      every amplitude is finite and not negative, at any rate and carrier: `row-amount`; samples, rotor,
 --             means: `sample-bounded`, `rotor-bounded`, `derot-bounded`, `mean-bounded`, `block-bounded`
--- Unturned    at carrier 0 the rotor is (1, 0): `rotor-unturned`; at 0 and −0 it is one for all samples of a mean:
---             `rotor-still`, `mean-still`, `means-still`
+-- Unturned    at carrier 0 the rotor is (1, 0): `rotor-unturned`, at −0 too: `rotor-still`; means with no sine:
+--             `mean-still`, `means-still`
 -- Laws        `laws`, the ruleset of the proofs' `search laws`
 pub mod Finite
 pub mod Steps

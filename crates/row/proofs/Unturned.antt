@@ -1,5 +1,5 @@
--- At carrier 0 nothing is turned: the rotor is (1, 0) at every sample (`rotor-unturned`). At −0 too it is the same at
--- every sample (`rotor-still`), so a mean needs it once (`mean-still`, `means-still`). Assumes nothing.
+-- At carrier 0 nothing is turned: the rotor is (1, 0) at every sample (`rotor-unturned`), and at −0 too
+-- (`rotor-still`), so that a mean needs no sine and no cosine (`mean-still`, `means-still`). Assumes nothing.
 use Prim.Native.Nat.{ℕ, _+_, _*_, _^_, _≤_}
 use native.Mathlib.Nat.{zero-mul, mul-one}
 use native.Mathlib.Omega.{arith}
@@ -9,16 +9,19 @@ use mathlib.Core.List.{List}
 use borrow.Author.Tests.{eqb-true}
 use lib.Dec.{eqb, lit<}
 use lib.ListN.{length}
-use lib.Ieee.{Float, nan, inf, fin, binary64, add, mul, rem, lt, eq, ofInt, ofBits, round, up, down, unlike}
+use lib.Ieee.{Float, nan, inf, fin, binary64, add, sub, mul, div, rem, neg, lt, le, eq, ofInt, ofBits, toSigned, round, up, down, unlike}
 use lib.IntN.{pos}
 use lib.Ieee.Exact.{HasValue}
 use Rattle.float.specs.Ops.{_⊗_, of, one, plus-zero, fraction}
 use Rattle.float.specs.Compare.{absOf}
+use Rattle.float.specs.Whole.{roundOf}
 use Rattle.float.specs.Remainder.{remEuclidOf}
 use Rattle.float.proofs.Counts.{whole-mul, whole-value}
 use Rattle.float.proofs.Sums.{mul-over}
 use Rattle.lists.proofs.Every.{and-left}
-use Rattle.trig.specs.Consts.{TAU}
+use Rattle.trig.specs.Consts.{PI, TAU}
+use Rattle.trig.specs.Sine.{sineTable}
+use Rattle.trig.specs.Circle.{sineAt, within, sinOf, cosOf}
 use Rattle.trig.proofs.Edges.{sin-zero, cos-zero}
 use Rattle.complex.specs.declared.value.Complex.{Complex}
 use Rattle.complex.specs.Value.{cNew, cMul, cConj, cDiv}
@@ -49,22 +52,30 @@ zero-value (fin s m e) h =
     let q : a ≡ 0 * up (pos 0) * down e = eqb-true a (0 * up (pos 0) * down e) (and-left (eqb a (0 * up (pos 0) * down e)) (Bool·beq s false || eqb a 0) h) in
     (s, (refl, omega (arith, q, zero-mul (up (pos 0)), zero-mul (down e), mul-one (m * up e))))
 
-pub rotor-still : (cyc : Float) → eq cyc plus-zero ≡ true → (k : ℕ) → k ≤ 2 ^ 53 → rotorOf cyc k ≡ rotorOf cyc 0
+-- the rotor where cyc × k is 0 or −0
+still : (s : Bool) →
+    let ph = remEuclidOf (round binary64 (unlike s false) 0 1) one ⊗ TAU in
+    cNew (cosOf ph) (sinOf ph) ≡ cNew (of 1) (of 0)
+unfolding remEuclidOf rem lt add sub mul div neg le absOf roundOf TAU PI fraction round ofInt ofBits toSigned sinOf cosOf sineAt within sineTable
+still false = refl
+still true = refl
+
+pub rotor-still : (cyc : Float) → eq cyc plus-zero ≡ true → (k : ℕ) → k ≤ 2 ^ 53 → rotorOf cyc k ≡ cNew (of 1) (of 0)
 unfolding rotorOf
-rotor-still cyc h k K = let z = zero-value cyc h in rw (turn z k K ∙ sym (turn z 0 (omega arith)))
+rotor-still cyc h k K = let z = zero-value cyc h in rw (turn z k K) (still (z .0))
   where
     turn : (z : (s : Bool) × HasValue cyc s 0 1) (k : ℕ) → k ≤ 2 ^ 53 → cyc ⊗ of k ≡ round binary64 (unlike (z .0) false) 0 1
     turn z k K = mul-over binary64 cyc (of k) (z .0) false 0 1 k 1 (lit< tt) (lit< tt) (z .1) (whole-value binary64 k K) ∙ rw (zero-mul k)
 
-pub mean-still : (iq : List Float) (cyc : Float) (a len : ℕ) → eq cyc plus-zero ≡ true → a + len ≤ 2 ^ 53 → meanTimes iq (stillTurn cyc) a len ≡ meanFrom iq cyc a len
+pub mean-still : (iq : List Float) (cyc : Float) (a len : ℕ) → eq cyc plus-zero ≡ true → a + len ≤ 2 ^ 53 → meanTimes iq stillTurn a len ≡ meanFrom iq cyc a len
 unfolding meanTimes meanFrom derot
 mean-still iq cyc a len h f =
     ap (λ (z : Complex). cDiv z (of len))
-    (cSum-cong (times iq (stillTurn cyc)) (derot iq cyc) a len (λ k b. ap (λ (z : Complex). cMul (zAt iq k) (cConj z)) (sym (rotor-still cyc h k (omega arith)))))
+    (cSum-cong (times iq stillTurn) (derot iq cyc) a len (λ k b. ap (λ (z : Complex). cMul (zAt iq k) (cConj z)) (sym (rotor-still cyc h k (omega arith)))))
 
 pub means-still : (iq out : List Float) (cyc : Float) (len : ℕ) → eq cyc plus-zero ≡ true → Iq iq →
-    zFill out 0 (λ b. meanTimes iq (stillTurn cyc) (b * len) len) (blocks iq len) ≡ zFill out 0 (blockMean iq cyc len) (blocks iq len)
+    zFill out 0 (λ b. meanTimes iq stillTurn (b * len) len) (blocks iq len) ≡ zFill out 0 (blockMean iq cyc len) (blocks iq len)
 unfolding blockMean
 means-still iq out cyc len h q =
-    zFill-cong out 0 (λ b. meanTimes iq (stillTurn cyc) (b * len) len) (blockMean iq cyc len) (blocks iq len)
+    zFill-cong out 0 (λ b. meanTimes iq stillTurn (b * len) len) (blockMean iq cyc len) (blocks iq len)
     (λ b g. mean-still iq cyc (b * len) len h (omega (arith, block-fits (length iq) len b g, q .short)))

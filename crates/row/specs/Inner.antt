@@ -5,17 +5,16 @@ use mathlib.Core.List.{List}
 use lib.Ieee.{Float}
 use Rattle.float.specs.Ops.{of}
 use Rattle.complex.specs.declared.value.Complex.{Complex}
-use Rattle.complex.specs.Value.{cAdd, cSub, cMul, cConj, cDiv}
+use Rattle.complex.specs.Value.{cNew, cAdd, cSub, cMul, cConj, cDiv}
 use Rattle.complex.specs.Rows.{zAt, cSum}
-use Rattle.row.specs.Blocks.{rotorOf}
 
 -- the running sum one further: what comes in is added, less what goes out
 abbrev pub movedBy : (ℕ → Complex) → ℕ → Complex → Complex
 movedBy z i run = cAdd run (cSub (z (8 + i)) (z i))
 
--- the conjugate of the rotor at sample 0
-abbrev pub stillTurn : Float → Complex
-stillTurn cyc = cConj (rotorOf cyc 0)
+-- the conjugate of the rotor at carrier 0
+abbrev pub stillTurn : Complex
+stillTurn = cConj (cNew (of 1) (of 0))
 
 -- sample k times z, and the mean of len of these from sample a
 abbrev pub times : List Float → Complex → ℕ → Complex

@@ -44,12 +44,12 @@ pub fn derotated(iq: &[f32], cyc: f64, k: usize, sine: &[f64; 1025]) -> Complex
     sample(iq, k).mul(rotor(cyc, k, sine).conj())
 }
 
-// What every sample is multiplied by at carrier 0, where the rotor is the same at each.
-fn still_turn(cyc: f64, sine: &[f64; 1025]) -> Complex
-    requires { ⌜ now sine ≡ quarterSines ⌝ }
-    ensures { λ r. ⌜ r ≡ stillTurn cyc ⌝ }
+// What every sample is multiplied by at carrier 0, where the rotor is (1, 0) at each. It is written out and not asked
+// of `rotor`: with one more caller in this crate `rotor` is not compiled into the loop over the samples.
+fn still_turn() -> Complex
+    ensures { λ r. ⌜ r ≡ stillTurn ⌝ }
 {
-    rotor(cyc, 0, sine).conj()
+    Complex::new(1.0, 0.0).conj()
 }
 
 // The mean of the len samples from sample a, each times z.
@@ -75,7 +75,7 @@ pub fn mean_from(iq: &[f32], cyc: f64, a: usize, len: usize, sine: &[f64; 1025])
     ensures { λ r. ⌜ r ≡ meanFrom (now (iq .entry)) cyc a len ⌝ }
 {
     if cyc == 0.0 {
-        return mean_times(iq, still_turn(cyc, sine), a, len);
+        return mean_times(iq, still_turn(), a, len);
     }
     let e = a + len;
     let mut acc = Complex::ZERO;
@@ -121,7 +121,7 @@ pub fn block_means(iq: &[f32], cyc: f64, len: usize, out: &mut [f64], sine: &[f6
         × (now (out .exit) ≡ zFill (now (out .entry)) 0 (blockMean (now (iq .entry)) cyc len) (blocks (now (iq .entry)) len)) ⌝ }
 {
     if cyc == 0.0 {
-        return means_times(iq, still_turn(cyc, sine), len, out);
+        return means_times(iq, still_turn(), len, out);
     }
     let n = iq.len() / 2 / len;
     for b in 0..n {
