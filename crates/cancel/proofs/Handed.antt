@@ -1,5 +1,5 @@
 -- What an accepted call hands out. The premises `promise` and `singles` of each theorem are what the call ensures
--- where it answers `Done` and leaves `elements-after`, `row-after`, `fits-after` or `work-after` in a slice it was lent;
+-- where it answers `Done` and leaves `elements-after`, `row-after`, `fits-after` or `work-after` in what it was lent;
 -- `singles` says that every number of the recording is an f32. Assumes nothing.
 use Prim.Native.Nat.{ℕ, _+_, _-_, _<_}
 use native.Mathlib.Omega.{arith}
