@@ -2,9 +2,10 @@
 -- a file of its own. Assumes nothing.
 use Prim.Native.Nat.{ℕ, zero, suc, _*_, _/_, _%_, _≤_}
 use native.Mathlib.Omega.{arith}
-use mathlib.Core.Path.{_≡_, refl, ap}
-use mathlib.Core.Bool.{true}
-use mathlib.Core.List.{List}
+use mathlib.Core.Path.{_≡_, refl, sym, ap, subst, _∙_}
+use mathlib.Core.Logic.{⊎-elim}
+use mathlib.Core.Bool.{true, false}
+use mathlib.Core.List.{List, List·Memᴰ}
 use lib.Dec.{leb, eqb}
 use lib.ListN.{length}
 use lib.Ieee.{Float}
@@ -14,7 +15,8 @@ use Rattle.row.specs.Samples.{Iq, allFinite}
 use Rattle.elements.specs.Element.{ELEMENT}
 use Rattle.fits.specs.List.{FIT}
 use Rattle.cancel.specs.Answers.{accepted, refused, byNumber}
-use Rattle.cancel.specs.Questions.{countOk, placesOk, workOk}
+use Rattle.cancel.specs.Questions.{Asked, ask, firstNo, countOk, placesOk, workOk}
+use Rattle.cancel.proofs.FirstNo.{answer, all-yes, first-asked}
 
 -- 2 and 3
 pub recording-is : (iq : List Float) → countOk (length iq) ≡ true → allFinite iq ≡ true → Iq iq
@@ -64,3 +66,19 @@ pub accepted-by : {A : Type 0} (first : ℕ) (result : A) (lent : List (List Flo
 unfolding byNumber
 accepted-by zero result lent r e = (refl, cc)
 accepted-by (suc first) result lent r e = let never : _≡_ {A = ℕ} 0 1 = cc in absurd (omega arith)
+
+-- ---- of any call, by its questions
+
+module _ {A : Type 0} (qs : List Asked) (result : A) (lent : List (List Float)) (n : ℕ) (l : List (List Float)) (e : refused n l ≡ byNumber (firstNo qs) result lent) where
+  is-first : n ≡ firstNo qs
+  is-first = refused-first _ result lent n l e
+
+  -- with every answer yes it is not refused
+  pub never-refused : ((k : ℕ) → answer qs k ≡ true) → ⊥
+  never-refused each = refused-by _ result lent n l e (is-first ∙ all-yes qs each)
+
+  -- a refusal's number is that of a question it asks, answered no
+  pub refused-asked : List·Memᴰ (ask n false) qs
+  refused-asked =
+      ⊎-elim (λ none. absurd (refused-by _ result lent n l e (is-first ∙ none))) (λ m. subst (λ (k : ℕ). List·Memᴰ (ask k false) qs) (sym is-first) m)
+      (first-asked qs)

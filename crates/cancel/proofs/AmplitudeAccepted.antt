@@ -1,7 +1,8 @@
 -- `amplitude_row`: what it goes on with where every answer is yes, and what its promise says. Assumes nothing.
 use Prim.Native.Nat.{ℕ, _*_, _≤_}
 use mathlib.Core.Path.{_≡_, refl, ap}
-use mathlib.Core.List.{List}
+use mathlib.Core.Bool.{true, false}
+use mathlib.Core.List.{List, List·Memᴰ}
 use lib.ListN.{length}
 use lib.Ieee.{Float}
 use borrow.Author.Tests.{leb-true}
@@ -13,11 +14,13 @@ use Rattle.row.proofs.Steps.{rate-is}
 use Rattle.elements.specs.declared.amplitude.AmplitudeRow.{AmplitudeRow}
 use Rattle.elements.specs.Element.{Handed, handed}
 use Rattle.elements.specs.Find.{amplitudeRowOf}
+use Rattle.cancel.specs.declared.amplitude.RowAnswer.{RowAnswer}
+use Rattle.cancel.specs.declared.amplitude.RowAnswer.the-variants.{Refused, Done}
 use Rattle.cancel.specs.Answers.{accepted, refused}
-use Rattle.cancel.specs.Questions.{firstNo}
-use Rattle.cancel.specs.Amplitude.{rowQuestions, RowResult, rowRule}
-use Rattle.cancel.proofs.FirstNo.{yes-at}
-use Rattle.cancel.proofs.Accepted.{recording-is, work-room, refused-by, accepted-by}
+use Rattle.cancel.specs.Questions.{firstNo, ask}
+use Rattle.cancel.specs.Amplitude.{rowQuestions, RowResult, rowRule, rowOutcome}
+use Rattle.cancel.proofs.FirstNo.{yes-at, answer}
+use Rattle.cancel.proofs.Accepted.{recording-is, work-room, refused-by, accepted-by, never-refused, refused-asked}
 
 pub record RowAccepted (iq : List Float) (fs : Float) (row work : ℕ) : Type 0 where
   pub iq-ok : Iq iq
@@ -58,3 +61,14 @@ module _ (iq : List Float) (fs hz : Float) (row work : List Float) where
   pub row-counted : (r : RowResult) → accepted r ≡ rowRule iq fs hz row work → r .row .amplitudes ≡ rowLength iq fs
   unfolding amplitudeRowOf
   row-counted r e = ap (λ (a : AmplitudeRow). a .amplitudes) (row-done r e .0)
+
+  -- its number is that of a question it asks, answered no
+  pub row-number : (n : ℕ) (lent : List (List Float)) → refused n lent ≡ rowRule iq fs hz row work → List·Memᴰ (ask n false) (rowQuestions iq fs hz (length row) (length work))
+  unfolding rowRule
+  row-number n lent e = refused-asked (rowQuestions iq fs hz (length row) (length work)) _ _ n lent e
+
+  -- What 01 accepts is never refused: with a yes to each question the answer is Done, with the result of 01.
+  pub row-accepts : ((k : ℕ) → answer (rowQuestions iq fs hz (length row) (length work)) k ≡ true) → (a : RowAnswer) (row-after work-after : List Float) → rowOutcome a row-after work-after ≡ rowRule iq fs hz row work → a ≡ Done (amplitudeRowOf iq fs hz)
+  unfolding rowRule
+  row-accepts each (Refused n) row-after work-after e = absurd (never-refused (rowQuestions iq fs hz (length row) (length work)) _ _ n _ e each)
+  row-accepts each (Done r) row-after work-after e = ap Done (row-done _ e .0)

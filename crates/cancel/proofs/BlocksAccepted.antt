@@ -3,8 +3,8 @@
 use Prim.Native.Nat.{ℕ, _-_, _*_, _/_, _%_, _≤_}
 use native.Mathlib.Omega.{arith}
 use mathlib.Core.Path.{_≡_, refl, sym, ap, _∙_}
-use mathlib.Core.Bool.{true}
-use mathlib.Core.List.{List}
+use mathlib.Core.Bool.{true, false}
+use mathlib.Core.List.{List, List·Memᴰ}
 use lib.Dec.{leb, eqb}
 use lib.ListN.{length, take, drop}
 use lib.Seq.{take-at}
@@ -24,12 +24,14 @@ use Rattle.classes.specs.Classify.{countsOf, countsIn}
 use Rattle.classes.proofs.Classes.{codes-length}
 use Rattle.classes.proofs.Counts.{counts-hold}
 use Rattle.cancel.specs.declared.blocks.BlockClasses.{BlockClasses}
+use Rattle.cancel.specs.declared.blocks.ClassesAnswer.{ClassesAnswer}
+use Rattle.cancel.specs.declared.blocks.ClassesAnswer.the-variants.{Refused, Done}
 use Rattle.cancel.specs.Answers.{accepted, refused}
-use Rattle.cancel.specs.Questions.{firstNo, countOk}
-use Rattle.cancel.specs.Blocks.{blocksIn, classesQuestions, classesGiven, blockClassesOf, ClassesResult, classesRule}
-use Rattle.cancel.proofs.FirstNo.{yes-at}
+use Rattle.cancel.specs.Questions.{firstNo, countOk, ask}
+use Rattle.cancel.specs.Blocks.{blocksIn, classesQuestions, classesGiven, blockClassesOf, ClassesResult, classesRule, classesOutcome}
+use Rattle.cancel.proofs.FirstNo.{yes-at, answer}
 use Rattle.cancel.proofs.Given.{estimate-sized}
-use Rattle.cancel.proofs.Accepted.{refused-by, accepted-by}
+use Rattle.cancel.proofs.Accepted.{refused-by, accepted-by, never-refused, refused-asked}
 
 pub record ClassesAccepted (iq-len : ℕ) (fs : Float) (elements : List Float) (element-count : ℕ) (fits : List Float) (fit-count places : ℕ) : Type 0 where
   pub rate-ok : Rate fs
@@ -103,3 +105,14 @@ module _ (iq-len : ℕ) (fs hz step : Float) (elements : List Float) (element-co
   pub blocks-told : (r : ClassesResult) → accepted r ≡ classesRule iq-len fs hz step elements element-count fits fit-count classes → r .blocks .blocks ≡ blocksIn iq-len fs
   unfolding blockClassesOf
   blocks-told r e = ap (λ (b : BlockClasses). b .blocks) (classes-done r e .0)
+
+  -- its number is that of a question it asks, answered no
+  pub classes-number : (n : ℕ) (lent : List (List Float)) → refused n lent ≡ classesRule iq-len fs hz step elements element-count fits fit-count classes → List·Memᴰ (ask n false) (classesQuestions iq-len fs hz step elements element-count fits fit-count (length classes))
+  unfolding classesRule
+  classes-number n lent e = refused-asked (classesQuestions iq-len fs hz step elements element-count fits fit-count (length classes)) _ _ n lent e
+
+  -- What 01 accepts is never refused: with a yes to each question the answer is Done, with the result of 01.
+  pub classes-accepts : ((k : ℕ) → answer (classesQuestions iq-len fs hz step elements element-count fits fit-count (length classes)) k ≡ true) → (a : ClassesAnswer) (classes-after : List Float) → classesOutcome a classes-after ≡ classesRule iq-len fs hz step elements element-count fits fit-count classes → a ≡ Done (blockClassesOf iq-len fs elements element-count fits fit-count)
+  unfolding classesRule
+  classes-accepts each (Refused n) classes-after e = absurd (never-refused (classesQuestions iq-len fs hz step elements element-count fits fit-count (length classes)) _ _ n _ e each)
+  classes-accepts each (Done b) classes-after e = ap Done (classes-done _ e .0)

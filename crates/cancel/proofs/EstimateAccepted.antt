@@ -2,7 +2,8 @@
 use Prim.Native.Nat.{ℕ, _*_, _/_, _≤_}
 use native.Mathlib.Omega.{arith}
 use mathlib.Core.Path.{_≡_, refl, ap}
-use mathlib.Core.List.{List}
+use mathlib.Core.Bool.{true, false}
+use mathlib.Core.List.{List, List·Memᴰ}
 use lib.ListN.{length}
 use lib.Ieee.{Float}
 use Rattle.row.specs.Window.{Rate, stepBlocks}
@@ -16,11 +17,13 @@ use Rattle.fits.specs.declared.estimate.Estimate.{Estimate}
 use Rattle.fits.specs.List.{FIT}
 use Rattle.fits.specs.Estimate.{refined, strongEstimate, strongElements, strongFits}
 use Rattle.fits.proofs.Strong.{strong-counted}
+use Rattle.cancel.specs.declared.estimate.EstimateAnswer.{EstimateAnswer}
+use Rattle.cancel.specs.declared.estimate.EstimateAnswer.the-variants.{Refused, Done}
 use Rattle.cancel.specs.Answers.{accepted, refused}
-use Rattle.cancel.specs.Questions.{firstNo}
-use Rattle.cancel.specs.Estimate.{estimateQuestions, EstimateResult, estimateRule}
-use Rattle.cancel.proofs.FirstNo.{yes-at}
-use Rattle.cancel.proofs.Accepted.{recording-is, element-places, fit-places, work-room, refused-by, accepted-by}
+use Rattle.cancel.specs.Questions.{firstNo, ask}
+use Rattle.cancel.specs.Estimate.{estimateQuestions, EstimateResult, estimateRule, estimateOutcome}
+use Rattle.cancel.proofs.FirstNo.{yes-at, answer}
+use Rattle.cancel.proofs.Accepted.{recording-is, element-places, fit-places, work-room, refused-by, accepted-by, never-refused, refused-asked}
 
 pub record EstimateAccepted (iq : List Float) (fs : Float) (elements fits work : ℕ) : Type 0 where
   pub iq-ok : Iq iq
@@ -85,3 +88,14 @@ module _ (iq : List Float) (fs hint : Float) (elements fits work : List Float) w
       let few = strong-fitted iq fs hint in
       let most = strong-listed iq fs hint in
       rw (told .1) (few, omega arith)
+
+  -- its number is that of a question it asks, answered no
+  pub estimate-number : (n : ℕ) (lent : List (List Float)) → refused n lent ≡ estimateRule iq fs hint elements fits work → List·Memᴰ (ask n false) (estimateQuestions iq fs hint (length elements) (length fits) (length work))
+  unfolding estimateRule
+  estimate-number n lent e = refused-asked (estimateQuestions iq fs hint (length elements) (length fits) (length work)) _ _ n lent e
+
+  -- What 01 accepts is never refused: with a yes to each question the answer is Done, with the result of 01.
+  pub estimate-accepts : ((k : ℕ) → answer (estimateQuestions iq fs hint (length elements) (length fits) (length work)) k ≡ true) → (a : EstimateAnswer) (elements-after fits-after work-after : List Float) → estimateOutcome a elements-after fits-after work-after ≡ estimateRule iq fs hint elements fits work → a ≡ Done (strongEstimate iq fs hint)
+  unfolding estimateRule
+  estimate-accepts each (Refused n) elements-after fits-after work-after e = absurd (never-refused (estimateQuestions iq fs hint (length elements) (length fits) (length work)) _ _ n _ e each)
+  estimate-accepts each (Done d) elements-after fits-after work-after e = ap Done (estimate-done _ e .1)

@@ -1,7 +1,8 @@
 -- `find_elements`: what it goes on with where every answer is yes, and what its promise says. Assumes nothing.
 use Prim.Native.Nat.{ℕ, _*_, _/_, _≤_}
 use mathlib.Core.Path.{_≡_, refl, ap}
-use mathlib.Core.List.{List}
+use mathlib.Core.Bool.{true, false}
+use mathlib.Core.List.{List, List·Memᴰ}
 use lib.ListN.{length}
 use lib.Ieee.{Float}
 use Rattle.row.specs.Window.{Rate, stepBlocks}
@@ -11,11 +12,13 @@ use Rattle.elements.specs.declared.element.KeyedElement.{KeyedElement}
 use Rattle.elements.specs.declared.keying.Found.{Found}
 use Rattle.elements.specs.Element.{ELEMENT, Handed, handed}
 use Rattle.elements.specs.Find.{foundOf, elementsFound}
+use Rattle.cancel.specs.declared.find.FindAnswer.{FindAnswer}
+use Rattle.cancel.specs.declared.find.FindAnswer.the-variants.{Refused, Done}
 use Rattle.cancel.specs.Answers.{accepted, refused}
-use Rattle.cancel.specs.Questions.{firstNo}
-use Rattle.cancel.specs.Find.{findQuestions, FindResult, findRule}
-use Rattle.cancel.proofs.FirstNo.{yes-at}
-use Rattle.cancel.proofs.Accepted.{recording-is, element-places, work-room, refused-by, accepted-by}
+use Rattle.cancel.specs.Questions.{firstNo, ask}
+use Rattle.cancel.specs.Find.{findQuestions, FindResult, findRule, findOutcome}
+use Rattle.cancel.proofs.FirstNo.{yes-at, answer}
+use Rattle.cancel.proofs.Accepted.{recording-is, element-places, work-room, refused-by, accepted-by, never-refused, refused-asked}
 
 pub record FindAccepted (iq : List Float) (fs : Float) (elements work : ℕ) : Type 0 where
   pub iq-ok : Iq iq
@@ -53,3 +56,14 @@ module _ (iq : List Float) (fs hz : Float) (elements work : List Float) where
   find-done r e =
       let told = accepted-by _ _ _ r e in
       (told .0, ap (λ (r : FindResult). r .found) (told .1), ap (λ (r : FindResult). r .elements) (told .1))
+
+  -- its number is that of a question it asks, answered no
+  pub find-number : (n : ℕ) (lent : List (List Float)) → refused n lent ≡ findRule iq fs hz elements work → List·Memᴰ (ask n false) (findQuestions iq fs hz (length elements) (length work))
+  unfolding findRule
+  find-number n lent e = refused-asked (findQuestions iq fs hz (length elements) (length work)) _ _ n lent e
+
+  -- What 01 accepts is never refused: with a yes to each question the answer is Done, with the result of 01.
+  pub find-accepts : ((k : ℕ) → answer (findQuestions iq fs hz (length elements) (length work)) k ≡ true) → (a : FindAnswer) (elements-after work-after : List Float) → findOutcome a elements-after work-after ≡ findRule iq fs hz elements work → a ≡ Done (foundOf iq fs hz)
+  unfolding findRule
+  find-accepts each (Refused n) elements-after work-after e = absurd (never-refused (findQuestions iq fs hz (length elements) (length work)) _ _ n _ e each)
+  find-accepts each (Done f) elements-after work-after e = ap Done (find-done _ e .1)

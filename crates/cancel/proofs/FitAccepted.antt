@@ -1,7 +1,8 @@
 -- `fit_elements`: what it goes on with where every answer is yes, and what its promise says. Assumes nothing.
 use Prim.Native.Nat.{ℕ, _*_, _≤_}
 use mathlib.Core.Path.{_≡_, refl, ap}
-use mathlib.Core.List.{List}
+use mathlib.Core.Bool.{true, false}
+use mathlib.Core.List.{List, List·Memᴰ}
 use lib.ListN.{length}
 use lib.Ieee.{Float}
 use Rattle.row.specs.Window.{Rate, stepBlocks}
@@ -11,12 +12,14 @@ use Rattle.elements.specs.Element.{ELEMENT, Handed, handed}
 use Rattle.fits.specs.declared.fit.ElementFit.{ElementFit}
 use Rattle.fits.specs.List.{FIT}
 use Rattle.fits.specs.Inner.{AllTimed}
+use Rattle.cancel.specs.declared.fit.FitAnswer.{FitAnswer}
+use Rattle.cancel.specs.declared.fit.FitAnswer.the-variants.{Refused, Done}
 use Rattle.cancel.specs.Answers.{accepted, refused}
-use Rattle.cancel.specs.Questions.{firstNo}
-use Rattle.cancel.specs.Fit.{fitQuestions, FitResult, fitsGiven, fitRule}
-use Rattle.cancel.proofs.FirstNo.{yes-at}
+use Rattle.cancel.specs.Questions.{firstNo, ask}
+use Rattle.cancel.specs.Fit.{fitQuestions, FitResult, fitsGiven, fitRule, fitOutcome}
+use Rattle.cancel.proofs.FirstNo.{yes-at, answer}
 use Rattle.cancel.proofs.Given.{all-timed, elements-fit}
-use Rattle.cancel.proofs.Accepted.{recording-is, fit-places, work-room, refused-by, accepted-by}
+use Rattle.cancel.proofs.Accepted.{recording-is, fit-places, work-room, refused-by, accepted-by, never-refused, refused-asked}
 
 pub record FitAccepted (iq : List Float) (fs : Float) (elements : List Float) (count fits work : ℕ) : Type 0 where
   pub iq-ok : Iq iq
@@ -58,3 +61,14 @@ module _ (iq : List Float) (fs hz : Float) (elements : List Float) (count : ℕ)
   fit-done r e =
       let told = accepted-by _ _ _ r e in
       (told .0, ap (λ (r : FitResult). r .fitted) (told .1), ap (λ (r : FitResult). r .fits) (told .1))
+
+  -- its number is that of a question it asks, answered no
+  pub fit-number : (n : ℕ) (lent : List (List Float)) → refused n lent ≡ fitRule iq fs hz elements count fits work → List·Memᴰ (ask n false) (fitQuestions iq fs hz elements count (length fits) (length work))
+  unfolding fitRule
+  fit-number n lent e = refused-asked (fitQuestions iq fs hz elements count (length fits) (length work)) _ _ n lent e
+
+  -- What 01 accepts is never refused: with a yes to each question the answer is Done, with the result of 01.
+  pub fit-accepts : ((k : ℕ) → answer (fitQuestions iq fs hz elements count (length fits) (length work)) k ≡ true) → (a : FitAnswer) (fits-after work-after : List Float) → fitOutcome a fits-after work-after ≡ fitRule iq fs hz elements count fits work → a ≡ Done (length (fitsGiven iq fs hz elements count))
+  unfolding fitRule
+  fit-accepts each (Refused n) fits-after work-after e = absurd (never-refused (fitQuestions iq fs hz elements count (length fits) (length work)) _ _ n _ e each)
+  fit-accepts each (Done m) fits-after work-after e = ap Done (fit-done _ e .1)

@@ -6,11 +6,12 @@
 --             what a yes says of them: `all-timed`, `elements-fit`, `fit-sized`, `fits-fit`, `estimate-sized`
 -- Accepted    what yes to questions 2, 3, 5 and 6 shows: `recording-is`, `element-places`, `fit-places`, `work-room`;
 --             the two ways out of a call, and what they show: `refuses`, `accepts`, `refused-by`, `refused-first`,
---             `accepted-by`
+--             `accepted-by`; of any call by its questions: `never-refused`, `refused-asked`
 -- AmplitudeAccepted, FindAccepted, FitAccepted, EstimateAccepted, BlocksAccepted, ResidualAccepted, EvidenceAccepted,
 -- SubtractAccepted, RunAccepted
 --             of each call: what it goes on with, `find-accepted`; its result by its parts, `find-result`; what its
---             promise says: `find-refused`, `find-done`; `estimate-counts`; `run-number`, `run-accepts`
+--             promise says: `find-refused`, `find-done`; a refusal's number is that of a question it asks:
+--             `find-number`; with a yes to each it is done: `find-accepts`; `estimate-counts`
 -- Handed      theorems on what an accepted call hands out, in 01's terms: `row-told`, `row-at`, `row-found`,
 --             `row-elements`; `find-exactly`, `find-counted`,
 --             `find-nothing`; `fit-elements-are`, `fit-each`, `fit-skipped`; `estimate-exactly`, `estimate-counted`,

@@ -52,14 +52,14 @@ module _ (buf : List Float) (fs hint : Float) (elements fits work : List Float) 
       let part = told .1 in
       (told .0, ap (λ (r : RunResult). r .figures) part, ap (λ (r : RunResult). r .buffer) part, ap (λ (r : RunResult). r .elements) part, ap (λ (r : RunResult). r .fits) part)
 
-  -- What 01 accepts is never refused: with a yes to each of the seven questions the answer is Done, with the run's
-  -- figures.
+  -- What 01 accepts is never refused: with a yes to each question that a run asks, 1 to 6, the fifth of two lists, the
+  -- answer is Done, with the run's figures.
   pub run-accepts : rateOk fs ≡ true → countOk (length buf) ≡ true → allFinite buf ≡ true → carrierOk fs hint ≡ true
       → placesOk (stepBlocks buf fs / 2) (length elements / ELEMENT) ≡ true → placesOk (stepBlocks buf fs / 2) (length fits / FIT) ≡ true
-      → workOk (stepBlocks buf fs) (length work) ≡ true → (a : RunAnswer) (after left fits-left scratch : List Float)
-      → runOutcome a after left fits-left scratch ≡ runRule buf fs hint elements fits work → a ≡ Done (runFigures buf fs hint)
+      → workOk (stepBlocks buf fs) (length work) ≡ true → (a : RunAnswer) (buffer-after elements-after fits-after work-after : List Float)
+      → runOutcome a buffer-after elements-after fits-after work-after ≡ runRule buf fs hint elements fits work → a ≡ Done (runFigures buf fs hint)
   unfolding runRule
-  run-accepts rate count finite carrier places fit-places room (Refused n) after left fits-left scratch e =
+  run-accepts rate count finite carrier places fit-places room (Refused n) buffer-after elements-after fits-after work-after e =
       let none = all-yes (runQuestions buf fs hint (length elements) (length fits) (length work)) each in
       let first = refused-first _ _ _ n _ e in absurd (run-refused n _ e (first ∙ none))
     where
@@ -72,4 +72,4 @@ module _ (buf : List Float) (fs hint : Float) (elements fits work : List Float) 
       each (suc (suc (suc (suc (suc zero))))) = fit-places
       each (suc (suc (suc (suc (suc (suc zero)))))) = room
       each (suc (suc (suc (suc (suc (suc (suc k))))))) = refl
-  run-accepts rate count finite carrier places fit-places room (Done f) after left fits-left scratch e = ap Done (run-done _ e .1)
+  run-accepts rate count finite carrier places fit-places room (Done f) buffer-after elements-after fits-after work-after e = ap Done (run-done _ e .1)

@@ -64,14 +64,14 @@ use Rattle.cancel.specs.Running.{runOutcome, runRule}
 use Rattle.cancel.proofs.EstimateAccepted.{estimate-accepted}
 use Rattle.cancel.proofs.RunAccepted.{run-done}
 
-module _ (buf : List Float) (fs hint : Float) (elements fits work : List Float) (f : Figures) (after left fits-left scratch : List Float)
-    (promise : runOutcome (Done f) after left fits-left scratch ≡ runRule buf fs hint elements fits work) where
+module _ (buf : List Float) (fs hint : Float) (elements fits work : List Float) (f : Figures) (buffer-after elements-after fits-after work-after : List Float)
+    (promise : runOutcome (Done f) buffer-after elements-after fits-after work-after ≡ runRule buf fs hint elements fits work) where
   -- the elements and the fits handed out
   abbrev elements-out : List KeyedElement
-  elements-out = elementsIn left (f .estimate .found .listed)
+  elements-out = elementsIn elements-after (f .estimate .found .listed)
 
   abbrev fits-out : List ElementFit
-  fits-out = fitsIn fits-left (f .estimate .fitted)
+  fits-out = fitsIn fits-after (f .estimate .fitted)
 
   -- the powers that the residual check ranks, of the blocks of a class
   abbrev ranked : BlockClass → List Float
@@ -82,14 +82,14 @@ module _ (buf : List Float) (fs hint : Float) (elements fits work : List Float) 
   figures-are : f ≡ runFigures buf fs hint
   figures-are = run-done buf fs hint elements fits work _ promise .1
 
-  buffer-is : after ≡ runBuffer buf fs hint
+  buffer-is : buffer-after ≡ runBuffer buf fs hint
   buffer-is = run-done buf fs hint elements fits work _ promise .2
 
   elements-out-are : elements-out ≡ strongElements buf fs hint
-  elements-out-are = elements-read left elements _ _ (run-done buf fs hint elements fits work _ promise .3)
+  elements-out-are = elements-read elements-after elements _ _ (run-done buf fs hint elements fits work _ promise .3)
 
   fits-out-are : fits-out ≡ strongFits buf fs hint
-  fits-out-are = fits-read fits-left fits _ _ (run-done buf fs hint elements fits work _ promise .4)
+  fits-out-are = fits-read fits-after fits _ _ (run-done buf fs hint elements fits work _ promise .4)
 
   estimate-is : f .estimate ≡ strongEstimate buf fs hint
   unfolding runFigures
@@ -117,7 +117,7 @@ module _ (buf : List Float) (fs hint : Float) (elements fits work : List Float) 
   pub fits-of-listed : map (λ g. g .element) fits-out ≡ those (λ e. not (isSkipped (fitOf buf fs (f .estimate .«carrier_hz» ⊘ fs) e))) elements-out
   fits-of-listed =
       let told = run-done buf fs hint elements fits work _ promise in
-      rw at-refined (handed-strong-fits buf fs hint left elements _ (told .3) fits-left fits _ (told .4))
+      rw at-refined (handed-strong-fits buf fs hint elements-after elements _ (told .3) fits-after fits _ (told .4))
 
   pub fits-each : (g : ElementFit) → List·Memᴰ g fits-out → fitOf buf fs (f .estimate .«carrier_hz» ⊘ fs) (g .element) ≡ Fitted g
   fits-each g m = rw at-refined (strong-fit-is buf fs hint g (rw fits-out-are at m))
@@ -126,7 +126,7 @@ module _ (buf : List Float) (fs hint : Float) (elements fits work : List Float) 
   pub fitted-counted : f .estimate .fitted ≡ length (those (λ e. not (isSkipped (fitOf buf fs (f .estimate .«carrier_hz» ⊘ fs) e))) elements-out)
   unfolding fitsIn
   fitted-counted =
-      let handed-out = length-firsts (fitAt fits-left) (f .estimate .fitted) in
+      let handed-out = length-firsts (fitAt fits-after) (f .estimate .fitted) in
       let each = length-map fits-out (λ g. g .element) in
       sym handed-out ∙ sym each ∙ ap length fits-of-listed
 
@@ -191,7 +191,7 @@ module _ (buf : List Float) (fs hint : Float) (elements fits work : List Float) 
     list-exactly thr t =
         let told = run-done buf fs hint elements fits work _ promise in
         let known = estimate-accepted buf fs hint _ _ _ (told .0) in
-        rw at-refined (handed-strong buf fs hint left elements _ (told .3) singles (known .iq-ok) thr (rw at-refined at t))
+        rw at-refined (handed-strong buf fs hint elements-after elements _ (told .3) singles (known .iq-ok) thr (rw at-refined at t))
 
     -- The powers that the residual check ranks are finite, not negative and no −0.0, whatever the class: of the fits
     -- of an accepted run too `total_cmp` order is the order of the values.
@@ -217,7 +217,7 @@ module _ (buf : List Float) (fs hint : Float) (elements fits work : List Float) 
   counts-nothing t = found-is ∙ counted-nothing buf fs (f .estimate .«carrier_hz») t
 
   pub list-nothing : thresholdOf buf fs (f .estimate .«carrier_hz») ≡ Absent → elements-out ≡ []
-  list-nothing t = handed-strong-nothing buf fs hint left elements _ (run-done buf fs hint elements fits work _ promise .3) (rw at-refined at t)
+  list-nothing t = handed-strong-nothing buf fs hint elements-after elements _ (run-done buf fs hint elements fits work _ promise .3) (rw at-refined at t)
 
   -- ---- The word: taken exactly when all four hold.
   pub taken-exactly : f .taken ≡ takes (f .hypothesis) (f .estimate .fitted) (f .estimate .«carrier_step_hz») (f .residual)
@@ -229,20 +229,20 @@ module _ (buf : List Float) (fs hint : Float) (elements fits work : List Float) 
   is-taken = sym (ap (λ (g : Figures). g .taken) figures-are)
 
   -- A run that says kept changes no sample.
-  pub kept-unchanged : f .taken ≡ false → after ≡ buf
+  pub kept-unchanged : f .taken ≡ false → buffer-after ≡ buf
   unfolding runBuffer
   kept-unchanged k = rw (buffer-is, is-taken, k)
 
   -- One that says taken leaves what `subtract` leaves, of the fits handed out ..
-  pub taken-leaves : f .taken ≡ true → after ≡ subtracted fs (f .estimate .«carrier_hz» ⊘ fs) buf fits-out
+  pub taken-leaves : f .taken ≡ true → buffer-after ≡ subtracted fs (f .estimate .«carrier_hz» ⊘ fs) buf fits-out
   unfolding runBuffer
   taken-leaves k = rw (fits-out-are, at-refined, buffer-is, is-taken, k)
 
   -- .. and changes none outside the fitted spans.
-  pub outside-unchanged : (k : ℕ) → ((g : ElementFit) → List·Memᴰ g fits-out → covers (spanOf fs (samples buf) g) k ≡ false) → zAt after k ≡ zAt buf k
+  pub outside-unchanged : (k : ℕ) → ((g : ElementFit) → List·Memᴰ g fits-out → covers (spanOf fs (samples buf) g) k ≡ false) → zAt buffer-after k ≡ zAt buf k
   outside-unchanged k h = go (f .taken) refl
     where
-      go : (t : Bool) → f .taken ≡ t → zAt after k ≡ zAt buf k
+      go : (t : Bool) → f .taken ≡ t → zAt buffer-after k ≡ zAt buf k
       go true e = ap (λ l. zAt l k) (taken-leaves e) ∙ outside-spans fs (f .estimate .«carrier_hz» ⊘ fs) buf fits-out k h
       go false e = ap (λ l. zAt l k) (kept-unchanged e)
 
@@ -250,15 +250,15 @@ module _ (buf : List Float) (fs hint : Float) (elements fits work : List Float) 
 -- interior and gap blocks have the same residual figures, evidence and hypothesis, whatever the samples elsewhere, the
 -- hints, the lists and the positions are.
 module _ (buf buf' : List Float) (fs hint hint' : Float) (elements elements' fits fits' work work' : List Float) (f g : Figures)
-    (after after' left left' fits-left fits-left' scratch scratch' : List Float)
-    (one : runOutcome (Done f) after left fits-left scratch ≡ runRule buf fs hint elements fits work)
-    (two : runOutcome (Done g) after' left' fits-left' scratch' ≡ runRule buf' fs hint' elements' fits' work')
+    (buffer-after buffer-after' elements-after elements-after' fits-after fits-after' work-after work-after' : List Float)
+    (one : runOutcome (Done f) buffer-after elements-after fits-after work-after ≡ runRule buf fs hint elements fits work)
+    (two : runOutcome (Done g) buffer-after' elements-after' fits-after' work-after' ≡ runRule buf' fs hint' elements' fits' work')
     (long : length buf ≡ length buf')
     (carrier : f .estimate .«carrier_hz» ≡ g .estimate .«carrier_hz»)
-    (fits-alike : map rustOf (fitsIn fits-left (f .estimate .fitted)) ≡ map rustOf (fitsIn fits-left' (g .estimate .fitted)))
-    (elements-alike : map timesOf (elementsIn left (f .estimate .found .listed)) ≡ map timesOf (elementsIn left' (g .estimate .found .listed)))
+    (fits-alike : map rustOf (fitsIn fits-after (f .estimate .fitted)) ≡ map rustOf (fitsIn fits-after' (g .estimate .fitted)))
+    (elements-alike : map timesOf (elementsIn elements-after (f .estimate .found .listed)) ≡ map timesOf (elementsIn elements-after' (g .estimate .found .listed)))
     (agree : (b : ℕ) → b < blocks buf (windowOf fs)
-    → classOf fs (samples buf) (fitsIn fits-left (f .estimate .fitted)) (elementsIn left (f .estimate .found .listed)) b ≢ Other → AgreeIn buf buf' (windowOf fs) b) where
+    → classOf fs (samples buf) (fitsIn fits-after (f .estimate .fitted)) (elementsIn elements-after (f .estimate .found .listed)) b ≢ Other → AgreeIn buf buf' (windowOf fs) b) where
   not-other : (c : BlockClass) → (c ≡ Gap) ⊎ (c ≡ Interior) → c ≢ Other
   not-other c h e = ⊎-elim (λ p. gap-other (sym p ∙ e)) (λ p. interior-other (sym p ∙ e)) h
     where
@@ -270,20 +270,20 @@ module _ (buf buf' : List Float) (fs hint hint' : Float) (elements elements' fit
 
   pub same-residual : f .residual ≡ g .residual
   same-residual =
-      residual-is buf fs hint elements fits work f after left fits-left scratch one
-      ∙ residual-reach buf buf' fs (f .estimate .«carrier_hz») (fitsIn fits-left (f .estimate .fitted)) (fitsIn fits-left' (g .estimate .fitted)) (elementsIn left (f .estimate .found .listed)) (elementsIn left' (g .estimate .found .listed)) long fits-alike elements-alike agree
-      ∙ ap (λ c. residualCheckOf buf' fs c (fitsIn fits-left' (g .estimate .fitted)) (elementsIn left' (g .estimate .found .listed))) carrier
-      ∙ sym (residual-is buf' fs hint' elements' fits' work' g after' left' fits-left' scratch' two)
+      residual-is buf fs hint elements fits work f buffer-after elements-after fits-after work-after one
+      ∙ residual-reach buf buf' fs (f .estimate .«carrier_hz») (fitsIn fits-after (f .estimate .fitted)) (fitsIn fits-after' (g .estimate .fitted)) (elementsIn elements-after (f .estimate .found .listed)) (elementsIn elements-after' (g .estimate .found .listed)) long fits-alike elements-alike agree
+      ∙ ap (λ c. residualCheckOf buf' fs c (fitsIn fits-after' (g .estimate .fitted)) (elementsIn elements-after' (g .estimate .found .listed))) carrier
+      ∙ sym (residual-is buf' fs hint' elements' fits' work' g buffer-after' elements-after' fits-after' work-after' two)
 
   pub same-evidence : f .evidence ≡ g .evidence
   same-evidence =
-      evidence-is buf fs hint elements fits work f after left fits-left scratch one
-      ∙ evidence-check-reach buf buf' fs (f .estimate .«carrier_hz») (fitsIn fits-left (f .estimate .fitted)) (fitsIn fits-left' (g .estimate .fitted)) (elementsIn left (f .estimate .found .listed)) (elementsIn left' (g .estimate .found .listed)) long fits-alike elements-alike (λ b h c. agree b h (not-other (classOf fs (samples buf) (fitsIn fits-left (f .estimate .fitted)) (elementsIn left (f .estimate .found .listed)) b) c))
-      ∙ ap (λ c. evidenceCheckOf buf' fs c (fitsIn fits-left' (g .estimate .fitted)) (elementsIn left' (g .estimate .found .listed))) carrier
-      ∙ sym (evidence-is buf' fs hint' elements' fits' work' g after' left' fits-left' scratch' two)
+      evidence-is buf fs hint elements fits work f buffer-after elements-after fits-after work-after one
+      ∙ evidence-check-reach buf buf' fs (f .estimate .«carrier_hz») (fitsIn fits-after (f .estimate .fitted)) (fitsIn fits-after' (g .estimate .fitted)) (elementsIn elements-after (f .estimate .found .listed)) (elementsIn elements-after' (g .estimate .found .listed)) long fits-alike elements-alike (λ b h c. agree b h (not-other (classOf fs (samples buf) (fitsIn fits-after (f .estimate .fitted)) (elementsIn elements-after (f .estimate .found .listed)) b) c))
+      ∙ ap (λ c. evidenceCheckOf buf' fs c (fitsIn fits-after' (g .estimate .fitted)) (elementsIn elements-after' (g .estimate .found .listed))) carrier
+      ∙ sym (evidence-is buf' fs hint' elements' fits' work' g buffer-after' elements-after' fits-after' work-after' two)
 
   pub same-hypothesis : f .hypothesis ≡ g .hypothesis
   same-hypothesis =
-      hypothesis-is buf fs hint elements fits work f after left fits-left scratch one
+      hypothesis-is buf fs hint elements fits work f buffer-after elements-after fits-after work-after one
       ∙ ap hypothesisOf same-evidence
-      ∙ sym (hypothesis-is buf' fs hint' elements' fits' work' g after' left' fits-left' scratch' two)
+      ∙ sym (hypothesis-is buf' fs hint' elements' fits' work' g buffer-after' elements-after' fits-after' work-after' two)

@@ -1,17 +1,20 @@
 -- `subtract`: what it goes on with where every answer is yes, and what its promise says. Assumes nothing.
 use Prim.Native.Nat.{ℕ, _*_, _≤_}
 use mathlib.Core.Path.{_≡_, refl}
-use mathlib.Core.List.{List}
+use mathlib.Core.Bool.{true, false}
+use mathlib.Core.List.{List, List·Memᴰ}
 use lib.ListN.{length}
 use lib.Ieee.{Float}
 use Rattle.row.specs.Samples.{Iq}
 use Rattle.fits.specs.List.{FIT}
+use Rattle.cancel.specs.declared.removal.SubtractAnswer.{SubtractAnswer}
+use Rattle.cancel.specs.declared.removal.SubtractAnswer.the-variants.{Refused, Done}
 use Rattle.cancel.specs.Answers.{refused}
-use Rattle.cancel.specs.Questions.{firstNo}
-use Rattle.cancel.specs.Removal.{subtractQuestions, subtractRule}
-use Rattle.cancel.proofs.FirstNo.{yes-at}
+use Rattle.cancel.specs.Questions.{firstNo, ask}
+use Rattle.cancel.specs.Removal.{subtractQuestions, subtractRule, subtractOutcome}
+use Rattle.cancel.proofs.FirstNo.{yes-at, answer}
 use Rattle.cancel.proofs.Given.{estimate-sized}
-use Rattle.cancel.proofs.Accepted.{recording-is, refused-by}
+use Rattle.cancel.proofs.Accepted.{recording-is, refused-by, never-refused, refused-asked}
 
 pub record SubtractAccepted (buf fits : List Float) (fit-count : ℕ) : Type 0 where
   pub short : length buf ≤ 2097152
@@ -31,3 +34,15 @@ pub subtract-refused : (buf : List Float) (fs hz step : Float) (elements : List 
     (n : ℕ) (lent : List (List Float)) → refused n lent ≡ subtractRule buf fs hz step elements element-count fits fit-count → n ≡ 0 → ⊥
 unfolding subtractRule
 subtract-refused buf fs hz step elements element-count fits fit-count n lent e = refused-by _ _ _ n lent e
+
+module _ (buf : List Float) (fs hz step : Float) (elements : List Float) (element-count : ℕ) (fits : List Float) (fit-count : ℕ) where
+  -- its number is that of a question it asks, answered no
+  pub subtract-number : (n : ℕ) (lent : List (List Float)) → refused n lent ≡ subtractRule buf fs hz step elements element-count fits fit-count → List·Memᴰ (ask n false) (subtractQuestions buf fs hz step elements element-count fits fit-count)
+  unfolding subtractRule
+  subtract-number n lent e = refused-asked (subtractQuestions buf fs hz step elements element-count fits fit-count) _ _ n lent e
+
+  -- What 01 accepts is never refused: with a yes to each question the answer is Done.
+  pub subtract-accepts : ((k : ℕ) → answer (subtractQuestions buf fs hz step elements element-count fits fit-count) k ≡ true) → (a : SubtractAnswer) (buffer-after : List Float) → subtractOutcome a buffer-after ≡ subtractRule buf fs hz step elements element-count fits fit-count → a ≡ Done
+  unfolding subtractRule
+  subtract-accepts each (Refused n) buffer-after e = absurd (never-refused (subtractQuestions buf fs hz step elements element-count fits fit-count) _ _ n _ e each)
+  subtract-accepts each Done buffer-after e = refl

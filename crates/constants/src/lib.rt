@@ -10,7 +10,8 @@ pub const RISE_S: f64 = 5e-3;
 // With fewer fits than these an estimate is not good enough to be taken off.
 pub const MIN_ELEMENTS: usize = 20;
 
-// A carrier that was refined by more than this was not the sender that the hint meant.
+// The farthest that refining may move a carrier from its hint for the estimate to be used. From a spot hint the Rust's
+// authors measured 0.3 Hz, from a forced one 3 Hz.
 pub const MAX_CARRIER_STEP_HZ: f64 = 5.0;
 
 // An element whose interior, without both ramps, is shorter than this is not fitted.

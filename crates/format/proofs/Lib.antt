@@ -1,7 +1,8 @@
 -- Laws that the proofs of `format` share and that the crates above cite, by subject.
 
 -- Patterns    an f32's bit pattern by its two fields: `is-nan`, `is-number`, `is-infinity`
--- Laws        the loop that stores the samples: ruleset `laws`; a recording that is accepted is short: `parts-few`
+-- Laws        the loop that stores the samples: ruleset `laws`; a recording that is accepted is short: `parts-few`; a
+--             full array holds more than one may have: `too-many`; as many bytes as there are: `counts`
 -- Appending   text put into a buffer, piece by piece: `appended-none`, `appended-more`; the loop that copies
 -- Decimals    base ten: reading back gives the number: `decimal-back`; how many digits there are: `decimal-few`,
 --             `decimal-most`

@@ -10,6 +10,10 @@ use lib.Ieee.{Float, binary32, ofBits}
 unfoldable pub bytesOk : ℕ → Bool
 bytesOk n = eqb (n % 8) 0 && leb n 16384
 
+-- how many bytes are read at most: one more than that, so that too many are noticed
+abbrev pub INPUT : ℕ
+INPUT = 16384 + 1
+
 -- the bit pattern that part i has in the bytes: four of them, the least first
 abbrev pub patternAt : List ℕ → ℕ → ℕ
 patternAt bytes i =

@@ -1,8 +1,11 @@
 // What the programs read and write as bytes: a recording's samples, and text with numbers in base ten.
 pub mod bytes;
+mod input;
 pub mod text;
 
 pub use bytes::bytes_ok;
 pub use bytes::samples;
+pub use input::INPUT;
+pub use input::read_recording;
 pub use text::append;
 pub use text::line;

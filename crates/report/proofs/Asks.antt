@@ -8,9 +8,7 @@ use mathlib.Core.List.{List, [], _∷_, _++_}
 use lib.Dec.{leb, eqb}
 use lib.ListN.{length, take, drop}
 use lib.Ieee.{Float, nan, ofBits, ofInt, round, le, lt, eq, div, isNan}
-use lib.Seq.{length-take-le}
 use borrow.Author.Tests.{le-leb, eq-eqb, eqb-true}
-use Rattle.io.specs.Counts.{Counts}
 use Rattle.float.specs.Ops.{bits}
 use Rattle.float.specs.Compare.{absOf}
 use Rattle.float.specs.Size.{finiteF}
@@ -31,8 +29,9 @@ use Rattle.cancel.specs.Answers.{refused, accepted, byNumber}
 use Rattle.cancel.specs.Questions.{ask, firstNo, countOk, carrierOk, placesOk, workOk}
 use Rattle.cancel.specs.Running.{runQuestions, RunResult, runRule}
 use Rattle.cancel.proofs.RunAccepted.{run-done}
-use Rattle.format.specs.Bytes.{bytesOk, partAt}
+use Rattle.format.specs.Bytes.{bytesOk, INPUT, partAt}
 use Rattle.format.specs.Text.{Appended}
+use Rattle.format.proofs.Laws.{too-many}
 use Rattle.report.specs.Report.{RATE, HINT, ROOM, recordingOf, runLines, refusal, answered, reportOf}
 use Rattle.report.proofs.Room.{blocks-few, listed-few, answered-most}
 
@@ -144,6 +143,10 @@ pub report-refused : (bytes : List ℕ) → bytesOk (length bytes) ≡ false →
 unfolding reportOf firstNo answered
 report-refused bytes h = rw h
 
+-- of more bytes than a recording may have
+pub report-full : (bytes : List ℕ) → INPUT ≤ length bytes → reportOf bytes ≡ refusal 2
+report-full bytes h = report-refused bytes (too-many (length bytes) h)
+
 pub report-answered : (bytes : List ℕ) → bytesOk (length bytes) ≡ true → reportOf bytes ≡ answered (firstNo (ask 3 (allFinite (recordingOf bytes)) ∷ [])) (recordingOf bytes)
 unfolding reportOf firstNo
 report-answered bytes h = rw h
@@ -163,7 +166,3 @@ pub at-start : (d text after : List ℕ) (r : ℕ) → Appended d 0 text after r
 at-start d text after r p =
     let none : 0 + length text ≡ length text = omega arith in
     (p .next ∙ none, p .holds ∙ ap (λ (k : ℕ). text ++ drop k d) none)
-
--- as many bytes as there are, at the start of a buffer
-pub counts : (r : ℕ) (out : List ℕ) → r ≤ length out → Counts r out
-counts r out h = (h, sym (length-take-le r out h))

@@ -3,17 +3,19 @@ use crate::lines::run_lines;
 use cancel::RunAnswer;
 use elements::ELEMENT;
 use fits::FIT;
+use format::INPUT;
 use format::bytes_ok;
 use format::line;
 use format::samples;
 ghost use mathlib.Core.Path.{_≡_};
 ghost use mathlib.Core.List.{[], _∷_, _++_};
 ghost use Prim.Native.Nat.{_%_, _≤_};
-ghost use lib.ListN.{length, drop};
+ghost use lib.ListN.{length, take, drop};
 ghost use Rattle.io.specs.Counts.{Counts};
 ghost use Rattle.row.specs.Samples.{allFinite};
 ghost use Rattle.cancel.specs.Questions.{ask, firstNo};
 ghost use Rattle.format.specs.Text.{Appended};
+ghost use Rattle.format.specs.Bytes.{INPUT};
 ghost use Rattle.report.specs.Report.{ROOM, refusal, answered, reportOf};
 
 // Enough for every report.
@@ -57,4 +59,27 @@ pub fn report(bytes: &[u8], out: &mut [u8; ROOM]) -> usize
     let mut iq = [0.0f32; 4096];
     let parts = samples(bytes, &mut iq);
     of_recording(&mut iq[..parts], out)
+}
+
+// The report on the first n bytes, on all of them where there are no more.
+fn report_first(bytes: &[u8], n: usize, out: &mut [u8; ROOM]) -> usize
+    ensures { λ r. ⌜ Counts r (now (out .exit)) ⌝ }
+    ensures { λ r. ⌜ (r ≡ length (reportOf (take n (now (bytes .entry)))))
+        × (now (out .exit) ≡ reportOf (take n (now (bytes .entry))) ++ drop (length (reportOf (take n (now (bytes .entry))))) (now (out .entry))) ⌝ }
+{
+    if n < bytes.len() {
+        return report(&bytes[..n], out);
+    }
+    report(bytes, out)
+}
+
+// What the programs ask of the array into which a recording was read, and of the count. A count beyond the array counts
+// as a full one, and a full one holds more than a recording may have.
+pub fn report_read(bytes: &[u8; INPUT], n: usize, out: &mut [u8; ROOM]) -> usize
+    ensures { λ r. ⌜ Counts r (now (out .exit)) ⌝ }
+    ensures { λ r. ⌜ (r ≡ length (reportOf (take n (now (bytes .entry)))))
+        × (now (out .exit) ≡ reportOf (take n (now (bytes .entry))) ++ drop (length (reportOf (take n (now (bytes .entry))))) (now (out .entry))) ⌝ }
+    ensures { λ r. ⌜ (INPUT ≤ n → reportOf (take n (now (bytes .entry))) ≡ refusal 2) ⌝ }
+{
+    report_first(bytes, n, out)
 }

@@ -1,6 +1,7 @@
 // The report on a recording that comes as bytes.
 pub mod answer;
-pub mod lines;
+mod lines;
 
 pub use answer::ROOM;
 pub use answer::report;
+pub use answer::report_read;

@@ -9,10 +9,10 @@ use lib.ListN.{length, take, drop, length-take}
 use borrow.Author.Needs.{needs}
 use borrow.Author.Tests.{not-true, not-false}
 use Rattle.format.specs.Bytes.{bytesOk}
-use Rattle.format.proofs.Laws.{parts-few}
+use Rattle.format.proofs.Laws.{parts-few, counts}
 use Rattle.report.specs.Report.{recordingOf, reportOf}
 use Rattle.report.proofs.Room.{refusal-most, recording-length, recording-few, report-fits}
-use Rattle.report.proofs.Asks.{report-refused, report-answered, whole-samples, recording-read, at-start, counts}
+use Rattle.report.proofs.Asks.{report-refused, report-answered, whole-samples, recording-read, at-start}
 use Rattle.report.proofs.answer.report.Statement.{statement}
 use Rattle.report.proofs.answer.report.Tie as tie
 

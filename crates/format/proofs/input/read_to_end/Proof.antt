@@ -1,4 +1,5 @@
--- The invariant: no more bytes than there is room for. Assumes nothing.
+-- `format::input::read_to_end` meets its contract. The invariant: no more bytes than there is room for. Assumes
+-- nothing.
 use Prim.Native.Nat.{ℕ, _+_, _-_, _≤_}
 use native.Mathlib.Omega.{arith}
 use mathlib.Core.Path.{_≡_}
@@ -6,15 +7,15 @@ use mathlib.Core.List.{List}
 use lib.ListN.{length, drop, length-take}
 use borrow.Rule.Slice.PartMut.{putMid, same-len-mid}
 use borrow.Author.Needs.{needs}
-use Rattle.report.proofs.Asks.{counts}
-use Rattle.tankair.proofs.read_all.Statement.{statement}
-use Rattle.tankair.proofs.read_all.Tie as tie
+use Rattle.format.proofs.Laws.{counts}
+use Rattle.format.proofs.input.read_to_end.Statement.{statement}
+use Rattle.format.proofs.input.read_to_end.Tie as tie
 
 abbrev Inv-loop : tie.InvT-loop
-Inv-loop bytes₀ n₀ bytes n = (n ≤ length bytes) × (length bytes ≡ length bytes₀)
+Inv-loop fd bytes₀ n₀ bytes n = (n ≤ length bytes) × (length bytes ≡ length bytes₀)
 
 abbrev μ-loop : tie.MeasureT-loop
-μ-loop bytes₀ n₀ bytes n = length bytes₀ - n
+μ-loop fd bytes₀ n₀ bytes n = length bytes₀ - n
 
 -- what the bytes are after a read, and how many there are
 abbrev after : (c : tie.After-read Inv-loop μ-loop) → List ℕ
@@ -56,8 +57,8 @@ loop-again c =
 returns-3 : tie.Need-returns-3 Inv-loop μ-loop
 returns-3 c = counts _ (c .before .loop .bytes) (omega (arith, c .before .loop .inv .0))
 
-pub read-all-spec : {M : Type 1} → statement M
-read-all-spec =
+pub read-to-end-spec : {M : Type 1} → statement M
+read-to-end-spec =
     tie.close
     (tie.spec
     Inv-loop

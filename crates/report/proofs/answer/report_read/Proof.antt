@@ -1,0 +1,17 @@
+-- `report::answer::report_read` meets its contract: a full array is refused. Assumes nothing.
+use native.Mathlib.Omega.{arith}
+use lib.Seq.{take-all}
+use borrow.Author.Needs.{needs}
+use Rattle.report.proofs.Asks.{report-full}
+use Rattle.report.proofs.answer.report_read.Statement.{statement}
+use Rattle.report.proofs.answer.report_read.Tie as tie
+
+returns : tie.Need-returns
+returns c =
+    let entry = c .before .before .before in
+    let bytes = entry .args .bytes .now in
+    let put = c .report-first .ensures in
+    (put .0, (put .1, λ h. rw (take-all (entry .args .n) bytes (omega arith)) (report-full bytes (omega arith))))
+
+pub report-read-spec : {M : Type 1} → statement M
+report-read-spec = tie.close (tie.spec (λ c κs. search needs) returns)
