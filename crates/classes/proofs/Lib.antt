@@ -6,9 +6,9 @@
 -- Counts    what such a slice counts: `class-told`, `count-holds`, `counts-hold`; the four counts together are the
 --           number of blocks: `blocks-counted`
 -- ByTimes   the class depends on the times alone: `class-by-times`, `class-by-places`
--- Order     what the order of labelling comes to: `rim-is-other`; `last-start-is-edge`, `last-end-is-edge`, `last-inside-is-interior`;
---           `near-no-gap`, `found-no-gap`
--- Labelled   a list with one number at the places that pass a test, and the loop that stores it
+-- Order     what the order of labelling comes to: `rim-is-other`; `last-start-is-edge`, `last-end-is-edge`,
+--           `last-inside-is-interior`; `near-no-gap`, `found-no-gap`
+-- Labelled  a list with one number at the places that pass a test, and the loop that stores it
 -- Turns     members of a list that label in turn, and the loop over them
 -- Zones     from the ranges that the code computes to near, inside, at an edge, on the rim
 -- Sizes     how large a window, the number of blocks and the first sample of a block are

@@ -1,6 +1,5 @@
 -- What the order of labelling comes to: the rim wins over everything, the last fit over those before it, and a block
--- near
--- any element, fitted or only found, is no gap.
+-- near any element, fitted or only found, is no gap.
 use Prim.Native.Nat.{ℕ}
 use mathlib.Core.Path.{_≡_, refl, ap, _∙_}
 use mathlib.Core.Bool.{Bool, true, false, _||_, cond, or-true}

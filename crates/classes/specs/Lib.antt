@@ -1,4 +1,4 @@
--- What the contracts of `classes` cite.
+-- What the contracts of `classes` cite. Inner is not needed to read a public promise.
 pub mod Class
 pub mod Classify
 pub mod Inner
