@@ -31,7 +31,7 @@ firstNo (ask number answer ∷ qs) = cond answer (firstNo qs) number
 unfoldable pub countOk : ℕ → Bool
 countOk n = eqb (n % 2) 0 && leb n 2097152
 
--- Every call asks 1 to 3 first; what it asks then stands in its own file.
+-- Every call that is lent a recording asks 1 to 3 first; what it asks then stands in its own file.
 abbrev pub recordingQuestions : List Float → Float → List Asked
 recordingQuestions iq fs = ask 1 (rateOk fs) ∷ ask 2 (countOk (length iq)) ∷ ask 3 (allFinite iq) ∷ []
 

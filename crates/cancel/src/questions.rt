@@ -14,8 +14,8 @@ ghost use Rattle.row.specs.Envelope.{rowLength};
 ghost use Rattle.classes.specs.Classify.{blocksOf};
 ghost use Rattle.cancel.specs.Questions.{firstNo, recordingQuestions, countOk, carrierOk, placesOk, workOk, sizeOk, positionOk, elementOk, elementsOk, fitOk, fitsOk, estimateOk};
 
-// 1 to 3, which every call asks first: the number of the first no, 0 where there is none. Questions 1 and 3 are
-// answered by crate row.
+// 1 to 3, which every call that is lent a recording asks first: the number of the first no, 0 where there is none.
+// Questions 1 and 3 are answered by crate row.
 pub fn recording_no(iq: &[f32], fs: f64) -> u64
     ensures { λ r. ⌜ r ≡ firstNo (recordingQuestions (now (iq .entry)) fs) ⌝ }
 {

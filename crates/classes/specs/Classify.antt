@@ -51,7 +51,7 @@ module _ (len : ℕ) where
   unfoldable pub inRange : Float → Float → ℕ → Bool
   inRange lo hi b = leb (firstFrom lo) b && ltb b (pastLast hi)
 
--- Each of a list in turn has its word on what is there; the last one stays.
+-- Each of a list in turn is applied to what those before it left.
 unfoldable pub inTurn : {A B : Type 0} → (A → B → B) → List A → B → B
 inTurn labels [] b = b
 inTurn labels (x ∷ xs) b = inTurn labels xs (labels x b)

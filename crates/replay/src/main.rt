@@ -1,4 +1,4 @@
-// Replays the Rust's stored answers: reads them from standard input, asks each call again and compares every number.
+// Replays the Rust's stored answers: reads them from standard input, asks the calls again and compares every number.
 // crates/replay/README.md has the form of the file and how it was made.
 mod calls;
 mod cases;
@@ -65,7 +65,7 @@ fn put(
     true
 }
 
-// The end, or a call, in the order of include/cancel.h; answers whether its kind is known.
+// The end, or a call, in the order of crates/replay/README.md; answers whether its kind is known.
 fn ask(
     kind: usize,
     body: &[u8],

@@ -1,5 +1,5 @@
 // The square root of an f64, rounded to nearest: the whole-number root of the scaled significand,
-// 27 digits one by one and 26 by one division, and then the rounding.
+// 27 digits by a guess that is checked, or one by one where it misses, 26 by one division, and then the rounding.
 use float::TWO_52;
 ghost use mathlib.Core.Path.{_≡_};
 ghost use mathlib.Core.Bool.{not};

@@ -1,4 +1,4 @@
--- `float::root::extend_root` meets its contract. The guess is corrected by a flag and not by a branch. Assumes nothing.
+-- `root::extend_root` meets its contract. The guess is corrected by a flag and not by a branch. Assumes nothing.
 use Prim.Native.Nat.{ℕ, _+_, _-_, _*_, _/_, _%_, _^_, _≤_, _<_}
 use mathlib.Core.Path.{_≡_, ap}
 use mathlib.Core.Bool.{Bool, true, false, not}

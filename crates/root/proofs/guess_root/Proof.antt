@@ -1,4 +1,4 @@
--- `float::root::guess_root` meets its contract. Assumes nothing.
+-- `root::guess_root` meets its contract. Assumes nothing.
 use native.Mathlib.Omega.{arith}
 use borrow.Author.Needs.{needs}
 use Rattle.float.proofs.Value.{no-nan-bits, lt-no-nan}

@@ -1,4 +1,4 @@
--- `float::root::nearest_root` meets its contract. Assumes nothing.
+-- `root::nearest_root` meets its contract. Assumes nothing.
 use Prim.Native.Nat.{ℕ, _*_, _^_}
 use mathlib.Core.Path.{subst}
 use native.Mathlib.Omega.{arith}

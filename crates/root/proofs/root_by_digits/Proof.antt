@@ -1,4 +1,4 @@
--- `float::root::root_by_digits` meets its contract. The invariant: q and r are the root of the digits of h passed,
+-- `root::root_by_digits` meets its contract. The invariant: q and r are the root of the digits of h passed,
 -- and what is left over. Assumes nothing.
 use Prim.Native.Nat.{ℕ, _+_, _-_, _/_, _%_, _^_, _≤_, _<_}
 use mathlib.Core.Path.{_≡_, refl, sym, ap, _∙_, subst}

@@ -1,4 +1,4 @@
--- `float::root::root_from_guess` meets its contract. Assumes nothing.
+-- `root::root_from_guess` meets its contract. Assumes nothing.
 use Prim.Native.Nat.{ℕ, _-_, _*_, _<_}
 use native.Mathlib.Nat.{le-of-lt, mul-le-mul}
 use native.Mathlib.Omega.{arith}

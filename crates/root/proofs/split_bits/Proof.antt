@@ -1,4 +1,4 @@
--- `float::root::split_bits` meets its contract. Assumes nothing.
+-- `root::split_bits` meets its contract. Assumes nothing.
 use Prim.Native.Nat.{ℕ, suc, _+_, _-_, _*_, _/_, _%_, _^_, _≤_, _<_}
 use mathlib.Core.Path.{_≡_, sym, ap, _∙_, subst}
 use mathlib.Core.Bool.{Bool, cond}

@@ -1,4 +1,4 @@
--- `float::root::sqrt` meets its contract. Assumes nothing.
+-- `root::sqrt` meets its contract. Assumes nothing.
 use Prim.Native.Nat.{ℕ, _^_, _≤_, _<_}
 use mathlib.Core.Path.{_≡_, refl, sym, ap, _∙_, subst}
 use mathlib.Core.Bool.{not}

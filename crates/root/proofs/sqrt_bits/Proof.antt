@@ -1,4 +1,4 @@
--- `float::root::sqrt_bits` meets its contract. Assumes nothing.
+-- `root::sqrt_bits` meets its contract. Assumes nothing.
 use Prim.Native.Nat.{ℕ, _+_, _*_, _%_, _^_, _≤_, _<_}
 use native.Mathlib.Omega.{arith}
 use native.Mathlib.Nat.{mul-le-mul-left}

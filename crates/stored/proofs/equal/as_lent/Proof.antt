@@ -1,4 +1,4 @@
--- `replay::equal::as_lent` is safe and ends. Assumes nothing.
+-- `stored::equal::as_lent` is safe and ends. Assumes nothing.
 use Prim.Native.Nat.{_≤_, _-_}
 use lib.ListN.{length}
 use borrow.Author.Needs.{needs}

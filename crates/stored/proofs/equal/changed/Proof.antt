@@ -1,4 +1,4 @@
--- `replay::equal::changed` is safe and ends. Assumes nothing.
+-- `stored::equal::changed` is safe and ends. Assumes nothing.
 use Prim.Native.Nat.{_≤_, _-_, _/_}
 use lib.ListN.{length}
 use borrow.Author.Needs.{needs}

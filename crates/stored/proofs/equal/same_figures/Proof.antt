@@ -1,4 +1,4 @@
--- `replay::equal::same_figures` is safe and ends. Assumes nothing.
+-- `stored::equal::same_figures` is safe and ends. Assumes nothing.
 use Prim.Native.Nat.{_≤_, _-_}
 use lib.ListN.{length}
 use borrow.Author.Needs.{needs}

@@ -1,4 +1,4 @@
--- `replay::equal::same_list` is safe and ends. Assumes nothing.
+-- `stored::equal::same_list` is safe and ends. Assumes nothing.
 use Prim.Native.Nat.{_≤_, _-_}
 use borrow.Author.Needs.{needs}
 use Rattle.stored.proofs.equal.same_list.Statement.{statement}

@@ -1,4 +1,4 @@
--- `replay::kept::recording` is safe and ends. Assumes nothing.
+-- `stored::kept::recording` is safe and ends. Assumes nothing.
 use Prim.Native.Nat.{_≤_, _-_}
 use mathlib.Core.Path.{_≡_}
 use lib.ListN.{length}

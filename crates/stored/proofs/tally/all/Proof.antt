@@ -1,4 +1,4 @@
--- `replay::tally::all` is safe and ends. Assumes nothing.
+-- `stored::tally::all` is safe and ends. Assumes nothing.
 use Prim.Native.Nat.{_≤_, _-_}
 use borrow.Author.Needs.{needs}
 use Rattle.stored.proofs.tally.all.Statement.{statement}

@@ -1,4 +1,4 @@
--- `replay::told::refusals` is safe and ends. Assumes nothing.
+-- `stored::told::refusals` is safe and ends. Assumes nothing.
 use Prim.Native.Nat.{_≤_, _-_}
 use borrow.Author.Needs.{needs}
 use Rattle.stored.proofs.told.refusals.Statement.{statement}

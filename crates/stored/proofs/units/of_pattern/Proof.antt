@@ -1,4 +1,4 @@
--- `replay::units::of_pattern` is safe and ends. Assumes nothing.
+-- `stored::units::of_pattern` is safe and ends. Assumes nothing.
 use borrow.Author.Needs.{needs}
 use mathlib.Core.Logic.{⊎-elim}
 use Rattle.stored.proofs.Patterns.{is-number, is-infinity}
