@@ -1,6 +1,7 @@
 // What is counted, each at its place in a row of counts.
 
-// The calls, in the order of crates/replay/README.md: how many were asked, and how many of them answered as the Rust does.
+// The calls, in the order of crates/replay/README.md: how many were asked, and how many of them answered as the Rust
+// does.
 pub const ASKED: usize = 0;
 
 pub const EQUAL: usize = 8;
