@@ -16,11 +16,11 @@ use Rattle.elements.specs.Element.{Handed, handed}
 use Rattle.elements.specs.Find.{amplitudeRowOf}
 use Rattle.cancel.specs.declared.amplitude.RowAnswer.{RowAnswer}
 use Rattle.cancel.specs.declared.amplitude.RowAnswer.the-variants.{Refused, Done}
-use Rattle.cancel.specs.Answers.{accepted, refused}
-use Rattle.cancel.specs.Questions.{firstNo, ask}
+use Rattle.questions.specs.Answers.{accepted, refused}
+use Rattle.questions.specs.Questions.{firstNo, ask}
 use Rattle.cancel.specs.Amplitude.{rowQuestions, RowResult, rowRule, rowOutcome}
-use Rattle.cancel.proofs.FirstNo.{yes-at, answer}
-use Rattle.cancel.proofs.Accepted.{recording-is, work-room, refused-by, accepted-by, never-refused, refused-asked}
+use Rattle.questions.proofs.FirstNo.{yes-at, answer}
+use Rattle.questions.proofs.Accepted.{recording-is, work-room, refused-by, accepted-by, never-refused, refused-asked}
 
 pub record RowAccepted (iq : List Float) (fs : Float) (row work : ℕ) : Type 0 where
   pub iq-ok : Iq iq

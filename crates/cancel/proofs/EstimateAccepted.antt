@@ -19,11 +19,11 @@ use Rattle.fits.specs.Estimate.{refined, strongEstimate, strongElements, strong
 use Rattle.fits.proofs.Strong.{strong-counted}
 use Rattle.cancel.specs.declared.estimate.EstimateAnswer.{EstimateAnswer}
 use Rattle.cancel.specs.declared.estimate.EstimateAnswer.the-variants.{Refused, Done}
-use Rattle.cancel.specs.Answers.{accepted, refused}
-use Rattle.cancel.specs.Questions.{firstNo, ask}
+use Rattle.questions.specs.Answers.{accepted, refused}
+use Rattle.questions.specs.Questions.{firstNo, ask}
 use Rattle.cancel.specs.Estimate.{estimateQuestions, EstimateResult, estimateRule, estimateOutcome}
-use Rattle.cancel.proofs.FirstNo.{yes-at, answer}
-use Rattle.cancel.proofs.Accepted.{recording-is, element-places, fit-places, work-room, refused-by, accepted-by, never-refused, refused-asked}
+use Rattle.questions.proofs.FirstNo.{yes-at, answer}
+use Rattle.questions.proofs.Accepted.{recording-is, element-places, fit-places, work-room, refused-by, accepted-by, never-refused, refused-asked}
 
 pub record EstimateAccepted (iq : List Float) (fs : Float) (elements fits work : ℕ) : Type 0 where
   pub iq-ok : Iq iq

@@ -14,11 +14,11 @@ use Rattle.elements.specs.Element.{ELEMENT, Handed, handed}
 use Rattle.elements.specs.Find.{foundOf, elementsFound}
 use Rattle.cancel.specs.declared.find.FindAnswer.{FindAnswer}
 use Rattle.cancel.specs.declared.find.FindAnswer.the-variants.{Refused, Done}
-use Rattle.cancel.specs.Answers.{accepted, refused}
-use Rattle.cancel.specs.Questions.{firstNo, ask}
+use Rattle.questions.specs.Answers.{accepted, refused}
+use Rattle.questions.specs.Questions.{firstNo, ask}
 use Rattle.cancel.specs.Find.{findQuestions, FindResult, findRule, findOutcome}
-use Rattle.cancel.proofs.FirstNo.{yes-at, answer}
-use Rattle.cancel.proofs.Accepted.{recording-is, element-places, work-room, refused-by, accepted-by, never-refused, refused-asked}
+use Rattle.questions.proofs.FirstNo.{yes-at, answer}
+use Rattle.questions.proofs.Accepted.{recording-is, element-places, work-room, refused-by, accepted-by, never-refused, refused-asked}
 
 pub record FindAccepted (iq : List Float) (fs : Float) (elements work : ℕ) : Type 0 where
   pub iq-ok : Iq iq

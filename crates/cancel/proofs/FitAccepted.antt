@@ -14,12 +14,12 @@ use Rattle.fits.specs.List.{FIT}
 use Rattle.fits.specs.Inner.{AllTimed}
 use Rattle.cancel.specs.declared.fit.FitAnswer.{FitAnswer}
 use Rattle.cancel.specs.declared.fit.FitAnswer.the-variants.{Refused, Done}
-use Rattle.cancel.specs.Answers.{accepted, refused}
-use Rattle.cancel.specs.Questions.{firstNo, ask}
+use Rattle.questions.specs.Answers.{accepted, refused}
+use Rattle.questions.specs.Questions.{firstNo, ask}
 use Rattle.cancel.specs.Fit.{fitQuestions, FitResult, fitsGiven, fitRule, fitOutcome}
-use Rattle.cancel.proofs.FirstNo.{yes-at, answer}
-use Rattle.cancel.proofs.Given.{all-timed, elements-fit}
-use Rattle.cancel.proofs.Accepted.{recording-is, fit-places, work-room, refused-by, accepted-by, never-refused, refused-asked}
+use Rattle.questions.proofs.FirstNo.{yes-at, answer}
+use Rattle.questions.proofs.Given.{all-timed, elements-fit}
+use Rattle.questions.proofs.Accepted.{recording-is, fit-places, work-room, refused-by, accepted-by, never-refused, refused-asked}
 
 pub record FitAccepted (iq : List Float) (fs : Float) (elements : List Float) (count fits work : ℕ) : Type 0 where
   pub iq-ok : Iq iq

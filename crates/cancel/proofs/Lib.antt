@@ -1,14 +1,6 @@
 -- Laws that the proofs of `cancel` share and that the crates above cite, by subject.
 
--- FirstNo     the first no of a list of questions, as the code asks them: ruleset `ways`; where it is 0, each answer
---             is yes: `yes-at`; where each is, it is 0: `all-yes`; else it is a question's: `first-asked`, `first-most`
--- Given       question 7: tests one after the other, ruleset `answers`; the loop over given records, ruleset `given`;
---             what a yes says of them: `all-timed`, `elements-fit`, `fit-sized`, `fits-fit`, `estimate-sized`
--- Accepted    what yes to questions 2, 3, 5 and 6 shows: `recording-is`, `element-places`, `fit-places`, `work-room`;
---             the two ways out of a call, and what they show: `refuses`, `accepts`, `refused-by`, `refused-first`,
---             `accepted-by`; of any call by its questions: `never-refused`, `refused-asked`
--- AmplitudeAccepted, FindAccepted, FitAccepted, EstimateAccepted, BlocksAccepted, ResidualAccepted, EvidenceAccepted,
--- SubtractAccepted, RunAccepted
+-- AmplitudeAccepted, FindAccepted, FitAccepted, EstimateAccepted, RunAccepted
 --             of each call: what it goes on with, `find-accepted`; its result by its parts, `find-result`; what its
 --             promise says: `find-refused`, `find-done`; a refusal's number is that of a question it asks:
 --             `find-number`; with a yes to each it is done: `find-accepts`; `estimate-counts`
@@ -23,17 +15,10 @@
 --             `evidence-is`, `hypothesis-is`; `counts-exactly`, `counts-nothing`; `list-exactly`, `list-nothing`;
 --             `ranked-plain`; `taken-exactly`, `kept-unchanged`, `taken-leaves`, `outside-unchanged`;
 --             `same-residual`, `same-evidence`, `same-hypothesis`
-pub mod FirstNo
-pub mod Given
-pub mod Accepted
 pub mod AmplitudeAccepted
 pub mod FindAccepted
 pub mod FitAccepted
 pub mod EstimateAccepted
-pub mod BlocksAccepted
-pub mod ResidualAccepted
-pub mod EvidenceAccepted
-pub mod SubtractAccepted
 pub mod Handed
 pub mod RunAccepted
 pub mod RunPromises

@@ -17,11 +17,11 @@ use Rattle.engine.specs.declared.run.Figures.{Figures}
 use Rattle.engine.specs.Run.{runFigures, runBuffer}
 use Rattle.cancel.specs.declared.running.RunAnswer.{RunAnswer}
 use Rattle.cancel.specs.declared.running.RunAnswer.the-variants.{Refused, Done}
-use Rattle.cancel.specs.Answers.{accepted, refused}
-use Rattle.cancel.specs.Questions.{firstNo, countOk, carrierOk, placesOk, workOk}
+use Rattle.questions.specs.Answers.{accepted, refused}
+use Rattle.questions.specs.Questions.{firstNo, countOk, carrierOk, placesOk, workOk}
 use Rattle.cancel.specs.Running.{runQuestions, RunResult, runOutcome, runRule}
-use Rattle.cancel.proofs.FirstNo.{answer, all-yes, first-most}
-use Rattle.cancel.proofs.Accepted.{refused-by, refused-first, accepted-by}
+use Rattle.questions.proofs.FirstNo.{answer, all-yes, first-most}
+use Rattle.questions.proofs.Accepted.{refused-by, refused-first, accepted-by}
 
 -- a result is the same as another if its parts are
 pub run-result : (f g : Figures) (b c : List Float) (h i : Handed KeyedElement) (j k : Handed ElementFit) (v w : ℕ) → f ≡ g → b ≡ c → h ≡ i → j ≡ k → v ≡ w

@@ -11,8 +11,8 @@ use Rattle.elements.specs.Element.{Handed, handed, handedNumbers}
 use Rattle.elements.specs.Find.{amplitudeRowOf}
 use Rattle.cancel.specs.declared.amplitude.RowAnswer.{RowAnswer}
 use Rattle.cancel.specs.declared.amplitude.RowAnswer.the-variants.{Refused, Done}
-use Rattle.cancel.specs.Answers.{Outcome, accepted, refused, byNumber}
-use Rattle.cancel.specs.Questions.{Asked, ask, firstNo, recordingQuestions, carrierOk, placesOk, workOk}
+use Rattle.questions.specs.Answers.{Outcome, accepted, refused, byNumber}
+use Rattle.questions.specs.Questions.{Asked, ask, firstNo, recordingQuestions, carrierOk, placesOk, workOk}
 
 -- It asks 1 to 6. A place of the list to be filled is one number, and it needs one per amplitude, B − 7.
 abbrev pub rowQuestions : List Float → Float → Float → ℕ → ℕ → List Asked

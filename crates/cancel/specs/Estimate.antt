@@ -12,8 +12,8 @@ use Rattle.fits.specs.List.{FIT, handedFits}
 use Rattle.fits.specs.Estimate.{strongEstimate, strongElements, strongFits}
 use Rattle.cancel.specs.declared.estimate.EstimateAnswer.{EstimateAnswer}
 use Rattle.cancel.specs.declared.estimate.EstimateAnswer.the-variants.{Refused, Done}
-use Rattle.cancel.specs.Answers.{Outcome, accepted, refused, byNumber}
-use Rattle.cancel.specs.Questions.{Asked, ask, firstNo, recordingQuestions, carrierOk, placesOk, workOk}
+use Rattle.questions.specs.Answers.{Outcome, accepted, refused, byNumber}
+use Rattle.questions.specs.Questions.{Asked, ask, firstNo, recordingQuestions, carrierOk, placesOk, workOk}
 
 -- It asks 1 to 6. Each of the two lists to be filled needs floor(B/2) places.
 abbrev pub estimateQuestions : List Float → Float → Float → ℕ → ℕ → ℕ → List Asked

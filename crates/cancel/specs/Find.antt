@@ -10,8 +10,8 @@ use Rattle.elements.specs.Element.{ELEMENT, Handed, handed, handedElements}
 use Rattle.elements.specs.Find.{foundOf, elementsFound}
 use Rattle.cancel.specs.declared.find.FindAnswer.{FindAnswer}
 use Rattle.cancel.specs.declared.find.FindAnswer.the-variants.{Refused, Done}
-use Rattle.cancel.specs.Answers.{Outcome, accepted, refused, byNumber}
-use Rattle.cancel.specs.Questions.{Asked, ask, firstNo, recordingQuestions, carrierOk, placesOk, workOk}
+use Rattle.questions.specs.Answers.{Outcome, accepted, refused, byNumber}
+use Rattle.questions.specs.Questions.{Asked, ask, firstNo, recordingQuestions, carrierOk, placesOk, workOk}
 
 -- It asks 1 to 6. The list to be filled needs floor(B/2) places.
 abbrev pub findQuestions : List Float → Float → Float → ℕ → ℕ → List Asked

@@ -9,8 +9,8 @@ use Rattle.fits.specs.declared.fit.ElementFit.{ElementFit}
 use Rattle.fits.specs.List.{FIT, handedFits, fitsOf}
 use Rattle.cancel.specs.declared.fit.FitAnswer.{FitAnswer}
 use Rattle.cancel.specs.declared.fit.FitAnswer.the-variants.{Refused, Done}
-use Rattle.cancel.specs.Answers.{Outcome, accepted, refused, byNumber}
-use Rattle.cancel.specs.Questions.{Asked, ask, firstNo, recordingQuestions, carrierOk, placesOk, workOk, elementsOk}
+use Rattle.questions.specs.Answers.{Outcome, accepted, refused, byNumber}
+use Rattle.questions.specs.Questions.{Asked, ask, firstNo, recordingQuestions, carrierOk, placesOk, workOk, elementsOk}
 
 -- It asks 1 to 7. The list to be filled needs one place per given element.
 abbrev pub fitQuestions : List Float → Float → Float → List Float → ℕ → ℕ → ℕ → List Asked

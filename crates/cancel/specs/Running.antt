@@ -13,8 +13,8 @@ use Rattle.engine.specs.declared.run.Figures.{Figures}
 use Rattle.engine.specs.Run.{runFigures, runBuffer}
 use Rattle.cancel.specs.declared.running.RunAnswer.{RunAnswer}
 use Rattle.cancel.specs.declared.running.RunAnswer.the-variants.{Refused, Done}
-use Rattle.cancel.specs.Answers.{Outcome, accepted, refused, byNumber}
-use Rattle.cancel.specs.Questions.{Asked, ask, firstNo, recordingQuestions, carrierOk, placesOk, workOk}
+use Rattle.questions.specs.Answers.{Outcome, accepted, refused, byNumber}
+use Rattle.questions.specs.Questions.{Asked, ask, firstNo, recordingQuestions, carrierOk, placesOk, workOk}
 
 -- It asks 1 to 6. Each of the two lists to be filled needs floor(B/2) places.
 abbrev pub runQuestions : List Float → Float → Float → ℕ → ℕ → ℕ → List Asked

@@ -1,12 +1,12 @@
 // amplitude_row, open to callers.
-use crate::questions::carrier_ok;
-use crate::questions::recording_no;
-use crate::questions::row_places_ok;
-use crate::questions::work_ok;
 use elements::AmplitudeRow;
+use questions::carrier_ok;
+use questions::recording_no;
+use questions::row_places_ok;
+use questions::work_ok;
 ghost use mathlib.Core.Path.{_≡_};
 ghost use Rattle.row.specs.Samples.{Singles};
-ghost use Rattle.cancel.specs.Questions.{firstNo};
+ghost use Rattle.questions.specs.Questions.{firstNo};
 ghost use Rattle.cancel.specs.Amplitude.{rowQuestions, rowOutcome, rowRule};
 
 pub enum RowAnswer {

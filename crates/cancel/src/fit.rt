@@ -1,12 +1,12 @@
 // fit_elements, open to callers.
-use crate::questions::carrier_ok;
-use crate::questions::elements_ok;
-use crate::questions::given_places_ok;
-use crate::questions::recording_no;
-use crate::questions::work_ok;
 use fits::FIT;
+use questions::carrier_ok;
+use questions::elements_ok;
+use questions::given_places_ok;
+use questions::recording_no;
+use questions::work_ok;
 ghost use mathlib.Core.Path.{_≡_};
-ghost use Rattle.cancel.specs.Questions.{firstNo};
+ghost use Rattle.questions.specs.Questions.{firstNo};
 ghost use Rattle.cancel.specs.Fit.{fitQuestions, fitOutcome, fitRule};
 
 pub enum FitAnswer {

@@ -1,14 +1,14 @@
 // run, open to callers.
-use crate::questions::carrier_ok;
-use crate::questions::find_places_ok;
-use crate::questions::recording_no;
-use crate::questions::work_ok;
 use elements::ELEMENT;
 use engine::Figures;
 use fits::FIT;
+use questions::carrier_ok;
+use questions::find_places_ok;
+use questions::recording_no;
+use questions::work_ok;
 ghost use mathlib.Core.Path.{_≡_};
 ghost use Rattle.row.specs.Samples.{Singles};
-ghost use Rattle.cancel.specs.Questions.{firstNo};
+ghost use Rattle.questions.specs.Questions.{firstNo};
 ghost use Rattle.cancel.specs.Running.{runQuestions, runOutcome, runRule};
 
 pub enum RunAnswer {

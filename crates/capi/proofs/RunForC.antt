@@ -11,11 +11,12 @@ use Rattle.fits.specs.List.{handedFits}
 use Rattle.fits.specs.Estimate.{strongEstimate}
 use Rattle.engine.specs.Run.{runFigures}
 use Rattle.cancel.specs.declared.running.RunAnswer.the-variants.{Done}
-use Rattle.cancel.specs.Answers.{Outcome, accepted, refused, byNumber}
+use Rattle.questions.specs.Answers.{Outcome, accepted, refused, byNumber}
 use Rattle.cancel.specs.Running.{RunResult, runOutcome, runRule}
 use Rattle.cancel.proofs.RunAccepted.{run-result, run-done}
 use Rattle.capi.specs.Calls.{Called, forC}
-use Rattle.capi.specs.Running.{Left, ranFigures, runCalled, runTold, runCall}
+use Rattle.figures.specs.Running.{ranFigures}
+use Rattle.capi.specs.Running.{Left, runCalled, runTold, runCall}
 
 -- `promise` is what `cancel_run` ensures where it returns 0
 module _ (buf : List Float) (fs hint : Float) (elements fits work before after left fits-left scratch figures : List Float)

@@ -9,8 +9,9 @@ use Rattle.elements.specs.Element.{Handed, handedElements, handedNumbers}
 use Rattle.fits.specs.declared.fit.ElementFit.{ElementFit}
 use Rattle.fits.specs.declared.estimate.Estimate.{Estimate}
 use Rattle.fits.specs.List.{handedFits}
-use Rattle.cancel.specs.Answers.{Outcome, accepted, refused, byNumber}
-use Rattle.capi.specs.Calls.{Called, forC, foundFigures, fittedFigures, estimateFigures}
+use Rattle.questions.specs.Answers.{Outcome, accepted, refused, byNumber}
+use Rattle.figures.specs.Calls.{foundFigures, fittedFigures, estimateFigures}
+use Rattle.capi.specs.Calls.{Called, forC}
 
 refuses : {A : Type 0} (n : ℕ) (a : A) (lent : List (List Float)) → (n ≡ 0 → ⊥) → byNumber n a lent ≡ refused n lent
 unfolding byNumber

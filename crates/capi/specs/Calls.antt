@@ -3,17 +3,16 @@ use Prim.Native.Nat.{ℕ}
 use mathlib.Core.List.{List, [], _∷_}
 use lib.ListN.{length}
 use lib.Ieee.{Float}
-use Rattle.float.specs.Ops.{of}
 use Rattle.elements.specs.declared.element.KeyedElement.{KeyedElement}
-use Rattle.elements.specs.declared.keying.Found.{Found}
 use Rattle.elements.specs.Element.{Handed, handedElements}
 use Rattle.fits.specs.declared.fit.ElementFit.{ElementFit}
 use Rattle.fits.specs.declared.estimate.Estimate.{Estimate}
 use Rattle.fits.specs.List.{handedFits}
-use Rattle.cancel.specs.Answers.{Outcome, accepted, refused, byNumber}
+use Rattle.questions.specs.Answers.{Outcome, accepted, refused, byNumber}
 use Rattle.cancel.specs.Find.{FindResult, findRule}
 use Rattle.cancel.specs.Fit.{FitResult, fitRule}
 use Rattle.cancel.specs.Estimate.{EstimateResult, estimateRule}
+use Rattle.figures.specs.Calls.{foundFigures, fittedFigures, estimateFigures}
 
 -- The result of an accepted call: its figures, what its lists hand out, of type A (with a run's buffer), and the length
 -- of the work slice.
@@ -29,10 +28,6 @@ forC told figures (refused n lent) = refused n (figures ∷ lent)
 
 -- ---- cancel_find_elements
 
--- figures: key-downs, listed, short, airtime
-abbrev pub foundFigures : Found → List Float
-foundFigures f = of (f .«key_downs») ∷ of (f .listed) ∷ of (f .short) ∷ of (f .airtime) ∷ []
-
 -- of the number that is returned, 0 for an accepted call, with what the lent slices then hold: `listed` elements, as
 -- many as the rule counts
 abbrev pub findCalled : ℕ → ℕ → List Float → List Float → List Float → Outcome (Called (Handed KeyedElement))
@@ -47,10 +42,6 @@ findCall iq fs hz elements work figures = forC findTold figures (findRule iq fs 
 
 -- ---- cancel_fit_elements
 
--- figures: fitted
-abbrev pub fittedFigures : ℕ → List Float
-fittedFigures fitted = of fitted ∷ []
-
 abbrev pub fitCalled : ℕ → ℕ → List Float → List Float → List Float → Outcome (Called (Handed ElementFit))
 fitCalled n fitted fits work figures =
     byNumber n (record { figures = figures; lists = handedFits fits fitted; work = length work }) (figures ∷ fits ∷ work ∷ [])
@@ -62,12 +53,6 @@ unfoldable pub fitCall : List Float → Float → Float → List Float → ℕ �
 fitCall iq fs hz elements count fits work figures = forC fitTold figures (fitRule iq fs hz elements count fits work)
 
 -- ---- cancel_estimate_strong
-
--- figures: carrier_hz, carrier_step_hz, key-downs, listed, short, airtime, fitted
-abbrev pub estimateFigures : Estimate → List Float
-estimateFigures e =
-    e .«carrier_hz» ∷ e .«carrier_step_hz» ∷ of (e .found .«key_downs») ∷ of (e .found .listed) ∷ of (e .found .short) ∷ of (e .found .airtime)
-    ∷ of (e .fitted) ∷ []
 
 abbrev pub estimateCalled : ℕ → Estimate → List Float → List Float → List Float → List Float → Outcome (Called (Handed KeyedElement × Handed ElementFit))
 estimateCalled n e elements fits work figures =

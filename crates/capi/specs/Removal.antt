@@ -2,7 +2,7 @@
 use Prim.Native.Nat.{ℕ}
 use mathlib.Core.List.{List, [], _∷_}
 use lib.Ieee.{Float}
-use Rattle.cancel.specs.Answers.{Outcome, byNumber}
+use Rattle.questions.specs.Answers.{Outcome, byNumber}
 
 -- of the number that is returned, 0 for an accepted call, with what the buffer then holds; there are no figures
 abbrev pub subtractCalled : ℕ → List Float → Outcome (List Float)

@@ -4,31 +4,14 @@ use Prim.Native.Nat.{ℕ}
 use mathlib.Core.List.{List, [], _∷_}
 use lib.ListN.{length}
 use lib.Ieee.{Float}
-use Rattle.float.specs.Ops.{of}
-use Rattle.elements.specs.declared.amplitude.AmplitudeRow.{AmplitudeRow}
-use Rattle.elements.specs.declared.threshold.Threshold.{Threshold}
-use Rattle.elements.specs.declared.threshold.Threshold.the-variants.{At, Absent}
 use Rattle.elements.specs.Element.{Handed, handedNumbers}
-use Rattle.cancel.specs.declared.blocks.BlockClasses.{BlockClasses}
-use Rattle.cancel.specs.Answers.{Outcome, byNumber}
+use Rattle.questions.specs.Answers.{Outcome, byNumber}
 use Rattle.cancel.specs.Amplitude.{RowResult, rowRule}
-use Rattle.cancel.specs.Blocks.{ClassesResult, classesRule}
+use Rattle.given.specs.Blocks.{ClassesResult, classesRule}
+use Rattle.figures.specs.Rows.{rowFigures, classesFigures}
 use Rattle.capi.specs.Calls.{Called, forC}
 
 -- ---- cancel_amplitude_row
-
--- a threshold as two figures: whether it is present, 0 or 1, and its value, 0 where it is absent
-abbrev pub thresholdPresent : Threshold → Float
-thresholdPresent (At thr) = of 1
-thresholdPresent Absent = of 0
-
-abbrev pub thresholdValue : Threshold → Float
-thresholdValue (At thr) = thr
-thresholdValue Absent = of 0
-
--- figures: amplitudes, threshold present, threshold
-abbrev pub rowFigures : AmplitudeRow → List Float
-rowFigures r = of (r .amplitudes) ∷ thresholdPresent (r .threshold) ∷ thresholdValue (r .threshold) ∷ []
 
 -- of the number that is returned, 0 for an accepted call, with what the lent slices then hold: `count` amplitudes, as
 -- many as the rule counts
@@ -43,11 +26,6 @@ unfoldable pub rowCall : List Float → Float → Float → List Float → List 
 rowCall iq fs hz row work figures = forC rowTold figures (rowRule iq fs hz row work)
 
 -- ---- cancel_block_classes
-
--- figures: blocks, edge, interior, gap, other
-abbrev pub classesFigures : BlockClasses → List Float
-classesFigures b =
-    of (b .blocks) ∷ of (b .counts .edge) ∷ of (b .counts .interior) ∷ of (b .counts .gap) ∷ of (b .counts .other) ∷ []
 
 -- the same of `blocks` classes; no work slice is lent
 abbrev pub classesCalled : ℕ → ℕ → List Float → List Float → Outcome (Called (Handed Float))

@@ -1,37 +1,17 @@
 -- What cancel_run returns and leaves in what it was lent (include/cancel.h). Definitions only.
 use Prim.Native.Nat.{ℕ}
-use mathlib.Core.Bool.{Bool, true, false}
-use mathlib.Core.List.{List, [], _∷_, _++_}
+use mathlib.Core.List.{List, [], _∷_}
 use lib.ListN.{length}
 use lib.Ieee.{Float}
-use Rattle.float.specs.Ops.{of}
 use Rattle.elements.specs.declared.element.KeyedElement.{KeyedElement}
-use Rattle.elements.specs.declared.keying.Found.{Found}
 use Rattle.elements.specs.Element.{Handed, handedElements}
 use Rattle.fits.specs.declared.fit.ElementFit.{ElementFit}
 use Rattle.fits.specs.declared.estimate.Estimate.{Estimate}
 use Rattle.fits.specs.List.{handedFits}
-use Rattle.engine.specs.declared.run.Figures.{Figures}
-use Rattle.cancel.specs.Answers.{Outcome, byNumber}
+use Rattle.questions.specs.Answers.{Outcome, byNumber}
 use Rattle.cancel.specs.Running.{RunResult, runRule}
+use Rattle.figures.specs.Running.{ranFigures}
 use Rattle.capi.specs.Calls.{Called, forC}
-use Rattle.capi.specs.Measures.{residualFigures, evidenceFigures}
-use Rattle.capi.specs.Hypothesis.{hypothesisFigures}
-
--- taken is 1, kept is 0
-abbrev pub takenOf : Bool → Float
-takenOf true = of 1
-takenOf false = of 0
-
--- figures: samples, window, key-downs, listed, short, fitted, skipped, airtime, blocks, edge, interior, gap, other,
--- carrier_hz, carrier_step_hz, those of the residual check, those of the evidence, hypothesis, its offset, taken
-abbrev pub ranFigures : Figures → List Float
-ranFigures f =
-    let e = f .estimate in
-    (of (f .samples) ∷ of (f .window) ∷ of (e .found .«key_downs») ∷ of (e .found .listed) ∷ of (e .found .short) ∷ of (e .fitted)
-    ∷ of (f .skipped) ∷ of (e .found .airtime) ∷ of (f .blocks) ∷ of (f .classes .edge) ∷ of (f .classes .interior)
-    ∷ of (f .classes .gap) ∷ of (f .classes .other) ∷ e .«carrier_hz» ∷ e .«carrier_step_hz» ∷ [])
-    ++ residualFigures (f .residual) ++ evidenceFigures (f .evidence) ++ hypothesisFigures (f .hypothesis) ++ (takenOf (f .taken) ∷ [])
 
 -- what an accepted run leaves: the buffer, and the elements and the fits that the lists hand out
 abbrev pub Left : Type 0

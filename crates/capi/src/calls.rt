@@ -3,7 +3,9 @@
 use cancel::EstimateAnswer;
 use cancel::FindAnswer;
 use cancel::FitAnswer;
-use std::num::nearest_u64_to_f64;
+use figures::of_estimate;
+use figures::of_find;
+use figures::of_fit;
 ghost use mathlib.Core.Path.{_≡_};
 ghost use lib.ListN.{length};
 ghost use Rattle.elements.specs.Find.{foundOf};
@@ -26,12 +28,7 @@ pub extern "C" fn cancel_find_elements(
     match cancel::find_elements(iq, fs, carrier_hz, elements, work) {
         FindAnswer::Refused(no) => no,
         FindAnswer::Done(f) => {
-            *figures = [
-                nearest_u64_to_f64(f.key_downs as u64),
-                nearest_u64_to_f64(f.listed as u64),
-                nearest_u64_to_f64(f.short as u64),
-                nearest_u64_to_f64(f.airtime as u64),
-            ];
+            *figures = of_find(f);
             0
         }
     }
@@ -55,7 +52,7 @@ pub extern "C" fn cancel_fit_elements(
     match cancel::fit_elements(iq, fs, carrier_hz, elements, element_count, fits, work) {
         FitAnswer::Refused(no) => no,
         FitAnswer::Done(fitted) => {
-            *figures = [nearest_u64_to_f64(fitted as u64)];
+            *figures = of_fit(fitted);
             0
         }
     }
@@ -77,16 +74,7 @@ pub extern "C" fn cancel_estimate_strong(
     match cancel::estimate_strong(iq, fs, hint_hz, elements, fits, work) {
         EstimateAnswer::Refused(no) => no,
         EstimateAnswer::Done(e) => {
-            let found = e.found;
-            *figures = [
-                e.carrier_hz,
-                e.carrier_step_hz,
-                nearest_u64_to_f64(found.key_downs as u64),
-                nearest_u64_to_f64(found.listed as u64),
-                nearest_u64_to_f64(found.short as u64),
-                nearest_u64_to_f64(found.airtime as u64),
-                nearest_u64_to_f64(e.fitted as u64),
-            ];
+            *figures = of_estimate(e);
             0
         }
     }

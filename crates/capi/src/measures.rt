@@ -1,10 +1,10 @@
 // The measures at a given estimate, for C: each returns 0 or a refusal's number, and writes figures where it returns 0.
 use cancel::EvidenceAnswer;
-use cancel::Offset;
 use cancel::ResidualAnswer;
-use std::num::nearest_u64_to_f64;
+use figures::of_evidence;
+use figures::of_residual;
 ghost use mathlib.Core.Path.{_≡_};
-ghost use Rattle.capi.specs.Measures.{residualCalled, residualCall, evidenceCalled, evidenceCall, presentOf, hertzOf};
+ghost use Rattle.capi.specs.Measures.{residualCalled, residualCall, evidenceCalled, evidenceCall};
 
 #[no_mangle]
 pub extern "C" fn cancel_residual_check(
@@ -35,35 +35,9 @@ pub extern "C" fn cancel_residual_check(
     ) {
         ResidualAnswer::Refused(no) => no,
         ResidualAnswer::Done(r) => {
-            *figures = [
-                r.edge_over_neighbour_db,
-                r.interior_over_neighbour_db,
-                nearest_u64_to_f64(r.edge_blocks as u64),
-                nearest_u64_to_f64(r.interior_blocks as u64),
-                nearest_u64_to_f64(r.gap_blocks as u64),
-            ];
+            *figures = of_residual(r);
             0
         }
-    }
-}
-
-// 1.0 where the offset is present, 0.0 where it is absent.
-pub fn present(o: Offset) -> f64
-    ensures { λ r. ⌜ r ≡ presentOf o ⌝ }
-{
-    match o {
-        Offset::Hz(_) => 1.0,
-        Offset::Absent => 0.0,
-    }
-}
-
-// The offset, 0.0 where it is absent.
-pub fn hertz(o: Offset) -> f64
-    ensures { λ r. ⌜ r ≡ hertzOf o ⌝ }
-{
-    match o {
-        Offset::Hz(f) => f,
-        Offset::Absent => 0.0,
     }
 }
 
@@ -96,14 +70,7 @@ pub extern "C" fn cancel_second_carrier_evidence(
     ) {
         EvidenceAnswer::Refused(no) => no,
         EvidenceAnswer::Done(e) => {
-            let offset = e.offset_hz;
-            *figures = [
-                nearest_u64_to_f64(e.gap_blocks as u64),
-                e.hot_fraction,
-                present(offset),
-                hertz(offset),
-                e.coherence,
-            ];
+            *figures = of_evidence(e);
             0
         }
     }

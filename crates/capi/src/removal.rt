@@ -1,7 +1,7 @@
 // The subtraction of a given estimate, for C: it returns 0 or a refusal's number, and answers no figures.
 use cancel::SubtractAnswer;
 ghost use mathlib.Core.Path.{_≡_};
-ghost use Rattle.cancel.specs.Removal.{subtractRule};
+ghost use Rattle.given.specs.Removal.{subtractRule};
 ghost use Rattle.capi.specs.Removal.{subtractCalled};
 
 #[no_mangle]

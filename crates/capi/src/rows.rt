@@ -2,32 +2,12 @@
 // writes figures where it returns 0.
 use cancel::ClassesAnswer;
 use cancel::RowAnswer;
-use cancel::Threshold;
-use std::num::nearest_u64_to_f64;
+use figures::of_classes;
+use figures::of_row;
 ghost use mathlib.Core.Path.{_≡_};
 ghost use Rattle.row.specs.Envelope.{rowLength};
-ghost use Rattle.cancel.specs.Blocks.{blocksIn};
-ghost use Rattle.capi.specs.Rows.{thresholdPresent, thresholdValue, rowCalled, rowCall, classesCalled, classesCall};
-
-// 1.0 where there is a threshold, 0.0 where it is absent.
-fn threshold_present(t: Threshold) -> f64
-    ensures { λ r. ⌜ r ≡ thresholdPresent t ⌝ }
-{
-    match t {
-        Threshold::At(_) => 1.0,
-        Threshold::Absent => 0.0,
-    }
-}
-
-// The threshold, 0.0 where it is absent.
-fn threshold_value(t: Threshold) -> f64
-    ensures { λ r. ⌜ r ≡ thresholdValue t ⌝ }
-{
-    match t {
-        Threshold::At(thr) => thr,
-        Threshold::Absent => 0.0,
-    }
-}
+ghost use Rattle.given.specs.Blocks.{blocksIn};
+ghost use Rattle.capi.specs.Rows.{rowCalled, rowCall, classesCalled, classesCall};
 
 #[no_mangle]
 pub extern "C" fn cancel_amplitude_row(
@@ -44,12 +24,7 @@ pub extern "C" fn cancel_amplitude_row(
     match cancel::amplitude_row(iq, fs, carrier_hz, row, work) {
         RowAnswer::Refused(no) => no,
         RowAnswer::Done(made) => {
-            let threshold = made.threshold;
-            *figures = [
-                nearest_u64_to_f64(made.amplitudes as u64),
-                threshold_present(threshold),
-                threshold_value(threshold),
-            ];
+            *figures = of_row(made);
             0
         }
     }
@@ -84,14 +59,7 @@ pub extern "C" fn cancel_block_classes(
     ) {
         ClassesAnswer::Refused(no) => no,
         ClassesAnswer::Done(made) => {
-            let counts = made.counts;
-            *figures = [
-                nearest_u64_to_f64(made.blocks as u64),
-                nearest_u64_to_f64(counts.edge as u64),
-                nearest_u64_to_f64(counts.interior as u64),
-                nearest_u64_to_f64(counts.gap as u64),
-                nearest_u64_to_f64(counts.other as u64),
-            ];
+            *figures = of_classes(made);
             0
         }
     }

@@ -1,13 +1,5 @@
 // Each call on a stored case, in slices of the lengths that the case names: whether all that it answers and leaves is
 // what is stored, and its refusal's number.
-use crate::figures::number;
-use crate::figures::of_estimate;
-use crate::figures::of_evidence;
-use crate::figures::of_find;
-use crate::figures::of_fit;
-use crate::figures::of_hypothesis;
-use crate::figures::of_residual;
-use crate::figures::of_run;
 use cancel::Estimate;
 use cancel::EstimateAnswer;
 use cancel::EvidenceAnswer;
@@ -15,11 +7,19 @@ use cancel::Figures;
 use cancel::FindAnswer;
 use cancel::FitAnswer;
 use cancel::Found;
+use cancel::Hypothesis;
 use cancel::Offset;
 use cancel::ResidualAnswer;
 use cancel::RunAnswer;
 use cancel::SecondCarrierEvidence;
 use cancel::SubtractAnswer;
+use figures::of_estimate;
+use figures::of_evidence;
+use figures::of_find;
+use figures::of_fit;
+use figures::of_hypothesis;
+use figures::of_residual;
+use figures::of_run;
 use stored::asked::Asked;
 use stored::asked::figures;
 use stored::equal::as_lent;
@@ -43,6 +43,16 @@ pub struct Ran {
     pub hypothesis: usize,
     pub taken: bool,
     pub changed: u64,
+}
+
+// The number of a hypothesis, by which runs are counted: 0 OneSignal, 1 TwoSignalCw, 2 NonCw, 3 Unresolved.
+fn number(h: Hypothesis) -> usize {
+    match h {
+        Hypothesis::OneSignal => 0,
+        Hypothesis::TwoSignalCw { offset_hz: _ } => 1,
+        Hypothesis::NonCw => 2,
+        Hypothesis::Unresolved => 3,
+    }
 }
 
 // Where a case's figures begin, in bytes.

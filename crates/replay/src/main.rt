@@ -2,7 +2,6 @@
 // crates/replay/README.md has the form of the file and how it was made.
 mod calls;
 mod cases;
-mod figures;
 
 use crate::calls::Answered;
 use crate::calls::Ran;

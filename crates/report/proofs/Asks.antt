@@ -25,8 +25,8 @@ use Rattle.fits.specs.Estimate.{refined, strongElements, strongEstimate}
 use Rattle.engine.specs.declared.run.Figures.{Figures}
 use Rattle.engine.specs.Run.{runFigures}
 use Rattle.cancel.specs.declared.running.RunAnswer.the-variants.{Refused, Done}
-use Rattle.cancel.specs.Answers.{refused, accepted, byNumber}
-use Rattle.cancel.specs.Questions.{ask, firstNo, countOk, carrierOk, placesOk, workOk}
+use Rattle.questions.specs.Answers.{refused, accepted, byNumber}
+use Rattle.questions.specs.Questions.{ask, firstNo, countOk, carrierOk, placesOk, workOk}
 use Rattle.cancel.specs.Running.{runQuestions, RunResult, runRule}
 use Rattle.cancel.proofs.RunAccepted.{run-done}
 use Rattle.format.specs.Bytes.{bytesOk, INPUT, partAt}

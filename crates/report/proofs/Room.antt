@@ -25,8 +25,8 @@ use Rattle.measure.specs.declared.hypothesis.Hypothesis.{Hypothesis}
 use Rattle.measure.specs.declared.hypothesis.Hypothesis.the-variants.{OneSignal, TwoSignalCw, NonCw, Unresolved}
 use Rattle.engine.specs.declared.run.Figures.{Figures}
 use Rattle.engine.specs.Run.{runFigures}
-use Rattle.cancel.specs.Questions.{firstNo}
-use Rattle.cancel.proofs.FirstNo.{yes-at}
+use Rattle.questions.specs.Questions.{firstNo}
+use Rattle.questions.proofs.FirstNo.{yes-at}
 use Rattle.format.specs.Ascii.{ascii}
 use Rattle.format.specs.Bytes.{bytesOk, partAt}
 use Rattle.format.proofs.Laws.{parts-few}

@@ -15,7 +15,7 @@ use Rattle.measure.specs.declared.hypothesis.Hypothesis.{Hypothesis}
 use Rattle.measure.specs.declared.hypothesis.Hypothesis.the-variants.{OneSignal, TwoSignalCw, NonCw, Unresolved}
 use Rattle.engine.specs.declared.run.Figures.{Figures}
 use Rattle.engine.specs.Run.{runFigures}
-use Rattle.cancel.specs.Questions.{Asked, ask, firstNo}
+use Rattle.questions.specs.Questions.{Asked, ask, firstNo}
 use Rattle.format.specs.Ascii.{ascii}
 use Rattle.format.specs.Bytes.{bytesOk, partAt}
 use Rattle.format.specs.Text.{line}

@@ -13,7 +13,7 @@ ghost use Prim.Native.Nat.{_%_, _≤_};
 ghost use lib.ListN.{length, take, drop};
 ghost use Rattle.io.specs.Counts.{Counts};
 ghost use Rattle.row.specs.Samples.{allFinite};
-ghost use Rattle.cancel.specs.Questions.{ask, firstNo};
+ghost use Rattle.questions.specs.Questions.{ask, firstNo};
 ghost use Rattle.format.specs.Text.{Appended};
 ghost use Rattle.format.specs.Bytes.{INPUT};
 ghost use Rattle.report.specs.Report.{ROOM, refusal, answered, reportOf};

@@ -1,6 +1,6 @@
 -- `cancel::amplitude::row_no` meets its contract. Assumes nothing.
 use borrow.Author.Needs.{needs}
-use Rattle.cancel.proofs.FirstNo.{ways}
+use Rattle.questions.proofs.FirstNo.{ways}
 use Rattle.cancel.proofs.amplitude.row_no.Statement.{statement}
 use Rattle.cancel.proofs.amplitude.row_no.Tie as tie
 

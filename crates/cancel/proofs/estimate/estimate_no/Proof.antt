@@ -1,6 +1,6 @@
 -- `cancel::estimate::estimate_no` meets its contract. Assumes nothing.
 use borrow.Author.Needs.{needs}
-use Rattle.cancel.proofs.FirstNo.{ways}
+use Rattle.questions.proofs.FirstNo.{ways}
 use Rattle.cancel.proofs.estimate.estimate_no.Statement.{statement}
 use Rattle.cancel.proofs.estimate.estimate_no.Tie as tie
 

@@ -5,9 +5,9 @@ use mathlib.Core.Path.{_≡_, sym, _∙_}
 use denote.Ref.{now}
 use lib.ListN.{length}
 use borrow.Author.Needs.{needs}
-use Rattle.cancel.specs.Questions.{firstNo}
+use Rattle.questions.specs.Questions.{firstNo}
 use Rattle.cancel.specs.Estimate.{estimateQuestions, estimateRule}
-use Rattle.cancel.proofs.Accepted.{refuses, accepts}
+use Rattle.questions.proofs.Accepted.{refuses, accepts}
 use Rattle.cancel.proofs.EstimateAccepted.{estimate-accepted, estimate-result}
 use Rattle.cancel.proofs.estimate.estimate_strong.Statement.{statement}
 use Rattle.cancel.proofs.estimate.estimate_strong.Tie as tie

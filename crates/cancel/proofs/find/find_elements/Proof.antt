@@ -5,9 +5,9 @@ use mathlib.Core.Path.{_≡_, sym, _∙_}
 use denote.Ref.{now}
 use lib.ListN.{length}
 use borrow.Author.Needs.{needs}
-use Rattle.cancel.specs.Questions.{firstNo}
+use Rattle.questions.specs.Questions.{firstNo}
 use Rattle.cancel.specs.Find.{findQuestions, findRule}
-use Rattle.cancel.proofs.Accepted.{refuses, accepts}
+use Rattle.questions.proofs.Accepted.{refuses, accepts}
 use Rattle.cancel.proofs.FindAccepted.{find-accepted, find-result}
 use Rattle.cancel.proofs.find.find_elements.Statement.{statement}
 use Rattle.cancel.proofs.find.find_elements.Tie as tie

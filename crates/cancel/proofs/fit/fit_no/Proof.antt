@@ -1,6 +1,6 @@
 -- `cancel::fit::fit_no` meets its contract. Assumes nothing.
 use borrow.Author.Needs.{needs}
-use Rattle.cancel.proofs.FirstNo.{ways}
+use Rattle.questions.proofs.FirstNo.{ways}
 use Rattle.cancel.proofs.fit.fit_no.Statement.{statement}
 use Rattle.cancel.proofs.fit.fit_no.Tie as tie
 

@@ -16,12 +16,12 @@ returns c =
 returns-2 : tie.Need-returns-2
 unfolding estimateCall
 returns-2 c =
-    let told = c .before .before .before .before .before .before .before in
+    let told = c .before in
     let asked = told .before .before .before .before .before .before .before .before .before in
     let answered = (rw (told .before .e .given .1) at (asked .estimate-strong .ensures .0)) in
     done-call estimateTold _ _ _ _ _ answered
     (estimate-told _ _ _ _ _ _ (estimate-done _ _ _ _ _ _ _ answered .1)
-    (rw (c .before .before .before .before .before .nearest-u64-to-f64 .ensures, c .before .before .before .before .nearest-u64-to-f642 .ensures, c .before .before .before .nearest-u64-to-f643 .ensures, c .before .before .nearest-u64-to-f644 .ensures, c .before .nearest-u64-to-f645 .ensures)))
+    (c .of-estimate .ensures))
 
 pub cancel-estimate-strong-spec : {M : Type 1} → statement M
 cancel-estimate-strong-spec =
@@ -30,10 +30,6 @@ cancel-estimate-strong-spec =
     (λ c κs. search needs)
     (λ c. search needs)
     (λ c. search needs)
-    (λ c κs. search needs)
-    (λ c κs. search needs)
-    (λ c κs. search needs)
-    (λ c κs. search needs)
     (λ c κs. search needs)
     (λ c. search needs)
     (λ c. search needs)

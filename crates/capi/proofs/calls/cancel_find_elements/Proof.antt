@@ -16,12 +16,12 @@ returns c =
 returns-2 : tie.Need-returns-2
 unfolding findCall
 returns-2 c =
-    let told = c .before .before .before .before .before in
+    let told = c .before in
     let asked = told .before .before .before .before .before .before .before in
     let answered = (rw (told .before .f .given .1) at (asked .find-elements .ensures .0)) in
     done-call findTold _ _ _ _ _ answered
     (find-told _ _ _ _ _ (find-done _ _ _ _ _ _ answered .1)
-    (rw (c .before .before .before .before .nearest-u64-to-f64 .ensures, c .before .before .before .nearest-u64-to-f642 .ensures, c .before .before .nearest-u64-to-f643 .ensures, c .before .nearest-u64-to-f644 .ensures)))
+    (c .of-find .ensures))
 
 pub cancel-find-elements-spec : {M : Type 1} → statement M
 cancel-find-elements-spec =
@@ -30,9 +30,6 @@ cancel-find-elements-spec =
     (λ c κs. search needs)
     (λ c. search needs)
     (λ c. search needs)
-    (λ c κs. search needs)
-    (λ c κs. search needs)
-    (λ c κs. search needs)
     (λ c κs. search needs)
     (λ c. search needs)
     (λ c. search needs)

@@ -16,10 +16,10 @@ returns c =
 returns-2 : tie.Need-returns-2
 unfolding fitCall
 returns-2 c =
-    let told = c .before .before in
+    let told = c .before in
     let asked = told .before .before .before .before .before .before .before in
     let answered = (rw (told .before .fitted .given .1) at (asked .fit-elements .ensures)) in
-    done-call fitTold _ _ _ _ _ answered (fit-told _ _ _ _ _ (fit-done _ _ _ _ _ _ _ _ answered .1) (rw (c .before .nearest-u64-to-f64 .ensures)))
+    done-call fitTold _ _ _ _ _ answered (fit-told _ _ _ _ _ (fit-done _ _ _ _ _ _ _ _ answered .1) (c .of-fit .ensures))
 
 pub cancel-fit-elements-spec : {M : Type 1} → statement M
 cancel-fit-elements-spec =

@@ -1,6 +1,6 @@
 -- `capi::measures::cancel_residual_check` meets its contract. Assumes nothing.
 use borrow.Author.Needs.{needs}
-use Rattle.cancel.proofs.ResidualAccepted.{residual-refused}
+use Rattle.given.proofs.ResidualAccepted.{residual-refused}
 use Rattle.capi.specs.Measures.{residualCall, residualTold}
 use Rattle.capi.proofs.Ways.{refused-call, done-call, measure-told}
 use Rattle.capi.proofs.measures.cancel_residual_check.Statement.{statement}
@@ -16,10 +16,10 @@ returns c =
 returns-2 : tie.Need-returns-2
 unfolding residualCall
 returns-2 c =
-    let told = c .before .before .before .before .before in
+    let told = c .before .before in
     let asked = told .before .before .before .before in
     let answered = (rw (told .r .given .1) at (asked .residual-check .ensures)) in
-    done-call residualTold _ _ _ _ _ answered (measure-told _ _ _ (rw (c .before .before .before .nearest-u64-to-f64 .ensures, c .before .before .nearest-u64-to-f642 .ensures, c .before .nearest-u64-to-f643 .ensures)))
+    done-call residualTold _ _ _ _ _ answered (measure-told _ _ _ (c .of-residual .ensures))
 
 pub cancel-residual-check-spec : {M : Type 1} → statement M
 cancel-residual-check-spec =
@@ -28,8 +28,6 @@ cancel-residual-check-spec =
     (λ c κs. search needs)
     (λ c. search needs)
     (λ c. search needs)
-    (λ c κs. search needs)
-    (λ c κs. search needs)
     (λ c κs. search needs)
     (λ c. search needs)
     returns

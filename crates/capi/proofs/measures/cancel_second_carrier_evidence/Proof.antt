@@ -1,6 +1,6 @@
 -- `capi::measures::cancel_second_carrier_evidence` meets its contract. Assumes nothing.
 use borrow.Author.Needs.{needs}
-use Rattle.cancel.proofs.EvidenceAccepted.{evidence-refused}
+use Rattle.given.proofs.EvidenceAccepted.{evidence-refused}
 use Rattle.capi.specs.Measures.{evidenceCall, evidenceTold}
 use Rattle.capi.proofs.Ways.{refused-call, done-call, measure-told}
 use Rattle.capi.proofs.measures.cancel_second_carrier_evidence.Statement.{statement}
@@ -16,10 +16,10 @@ returns c =
 returns-2 : tie.Need-returns-2
 unfolding evidenceCall
 returns-2 c =
-    let told = c .before .before .before .before .before in
+    let told = c .before .before in
     let asked = told .before .before .before .before in
     let answered = (rw (told .e .given .1) at (asked .second-carrier-evidence .ensures)) in
-    done-call evidenceTold _ _ _ _ _ answered (measure-told _ _ _ (rw (c .before .before .before .nearest-u64-to-f64 .ensures, c .before .before .present .ensures, c .before .hertz .ensures)))
+    done-call evidenceTold _ _ _ _ _ answered (measure-told _ _ _ (c .of-evidence .ensures))
 
 pub cancel-second-carrier-evidence-spec : {M : Type 1} → statement M
 cancel-second-carrier-evidence-spec =
@@ -28,8 +28,6 @@ cancel-second-carrier-evidence-spec =
     (λ c κs. search needs)
     (λ c. search needs)
     (λ c. search needs)
-    (λ c κs. search needs)
-    (λ c κs. search needs)
     (λ c κs. search needs)
     (λ c. search needs)
     returns

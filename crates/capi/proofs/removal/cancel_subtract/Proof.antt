@@ -1,7 +1,7 @@
 -- `capi::removal::cancel_subtract` meets its contract. Assumes nothing.
 use borrow.Author.Needs.{needs}
-use Rattle.cancel.specs.Answers.{byNumber}
-use Rattle.cancel.proofs.SubtractAccepted.{subtract-refused}
+use Rattle.questions.specs.Answers.{byNumber}
+use Rattle.given.proofs.SubtractAccepted.{subtract-refused}
 use Rattle.capi.proofs.Ways.{refused-way}
 use Rattle.capi.proofs.removal.cancel_subtract.Statement.{statement}
 use Rattle.capi.proofs.removal.cancel_subtract.Tie as tie

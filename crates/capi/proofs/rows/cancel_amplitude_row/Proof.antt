@@ -16,12 +16,12 @@ returns c =
 returns-2 : tie.Need-returns-2
 unfolding rowCall
 returns-2 c =
-    let told = c .before .before .before .before in
+    let told = c .before in
     let asked = told .before .before .before .before .before .before .before in
     let answered = (rw (told .before .made .given .1) at (asked .amplitude-row .ensures .0)) in
     done-call rowTold _ _ _ _ _ answered
     (numbers-told _ _ _ _ _ _ (row-counted _ _ _ _ _ _ answered)
-    (rw (c .before .before .before .nearest-u64-to-f64 .ensures, c .before .before .threshold-present .ensures, c .before .threshold-value .ensures)))
+    (c .of-row .ensures))
 
 pub cancel-amplitude-row-spec : {M : Type 1} → statement M
 cancel-amplitude-row-spec =
@@ -30,8 +30,6 @@ cancel-amplitude-row-spec =
     (λ c κs. search needs)
     (λ c. search needs)
     (λ c. search needs)
-    (λ c κs. search needs)
-    (λ c κs. search needs)
     (λ c κs. search needs)
     (λ c. search needs)
     (λ c. search needs)

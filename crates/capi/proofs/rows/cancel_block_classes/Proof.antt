@@ -1,6 +1,6 @@
 -- `capi::rows::cancel_block_classes` meets its contract. Assumes nothing.
 use borrow.Author.Needs.{needs}
-use Rattle.cancel.proofs.BlocksAccepted.{classes-refused, blocks-told}
+use Rattle.given.proofs.BlocksAccepted.{classes-refused, blocks-told}
 use Rattle.capi.specs.Rows.{classesCall, classesTold}
 use Rattle.capi.proofs.Ways.{refused-call, done-call, numbers-told}
 use Rattle.capi.proofs.rows.cancel_block_classes.Statement.{statement}
@@ -16,12 +16,12 @@ returns c =
 returns-2 : tie.Need-returns-2
 unfolding classesCall
 returns-2 c =
-    let told = c .before .before .before .before .before .before .before in
+    let told = c .before in
     let asked = told .before .before .before .before .before in
     let answered = (rw (told .before .made .given .1) at (asked .block-classes .ensures)) in
     done-call classesTold _ _ _ _ _ answered
     (numbers-told _ _ _ _ _ _ (blocks-told _ _ _ _ _ _ _ _ _ _ answered)
-    (rw (c .before .before .before .before .before .nearest-u64-to-f64 .ensures, c .before .before .before .before .nearest-u64-to-f642 .ensures, c .before .before .before .nearest-u64-to-f643 .ensures, c .before .before .nearest-u64-to-f644 .ensures, c .before .nearest-u64-to-f645 .ensures)))
+    (c .of-classes .ensures))
 
 pub cancel-block-classes-spec : {M : Type 1} → statement M
 cancel-block-classes-spec =
@@ -30,10 +30,6 @@ cancel-block-classes-spec =
     (λ c κs. search needs)
     (λ c. search needs)
     (λ c. search needs)
-    (λ c κs. search needs)
-    (λ c κs. search needs)
-    (λ c κs. search needs)
-    (λ c κs. search needs)
     (λ c κs. search needs)
     (λ c. search needs)
     returns

@@ -21,7 +21,7 @@ returns-2 c =
     let told = c .before in
     let asked = told .before .before .before .before .before .before .before .before .before .before .before in
     let answered = (rw (told .before .f .given .1) at (asked .run .ensures .0)) in
-    (done-call runTold _ _ _ _ _ answered (run-told _ _ _ (runFigures _ _ _) _ _ _ (run-done _ _ _ _ _ _ _ answered .1) (c .figures-of .ensures)), asked .run .ensures .1)
+    (done-call runTold _ _ _ _ _ answered (run-told _ _ _ (runFigures _ _ _) _ _ _ (run-done _ _ _ _ _ _ _ answered .1) (c .of-run .ensures)), asked .run .ensures .1)
 
 pub cancel-run-spec : {M : Type 1} → statement M
 cancel-run-spec =

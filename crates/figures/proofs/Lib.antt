@@ -1,0 +1,1 @@
+-- The proofs of `figures` are those of its functions; there are no laws here.

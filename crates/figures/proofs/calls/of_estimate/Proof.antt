@@ -1,0 +1,12 @@
+-- `figures::calls::of_estimate` meets its contract. Assumes nothing.
+use borrow.Author.Needs.{needs}
+use Rattle.figures.proofs.calls.of_estimate.Statement.{statement}
+use Rattle.figures.proofs.calls.of_estimate.Tie as tie
+
+returns : tie.Need-returns
+returns c = rw (c .before .before .before .before .count .ensures, c .before .before .before .count2 .ensures, c .before .before .count3 .ensures, c .before .count4 .ensures, c .count5 .ensures)
+
+pub of-estimate-spec : {M : Type 1} → statement M
+of-estimate-spec =
+    tie.close
+    (tie.spec (λ c κs. search needs) (λ c κs. search needs) (λ c κs. search needs) (λ c κs. search needs) (λ c κs. search needs) returns)

@@ -1,0 +1,12 @@
+-- `figures::rows::threshold_value` meets its contract. Assumes nothing.
+use borrow.Author.Needs.{needs}
+use lib.Ieee.{ofBits, ofInt}
+use Rattle.figures.proofs.rows.threshold_value.Statement.{statement}
+use Rattle.figures.proofs.rows.threshold_value.Tie as tie
+
+returns-2 : tie.Need-returns-2
+unfolding ofBits ofInt
+returns-2 c = rw (c .enum-told .given .1)
+
+pub threshold-value-spec : {M : Type 1} → statement M
+threshold-value-spec = tie.close (tie.spec (λ c. search needs) (λ c. search needs) (λ c. search needs) returns-2)

@@ -1,0 +1,6 @@
+-- What the contracts of `figures` cite, each file named as its source.
+pub mod Calls
+pub mod Measures
+pub mod Hypothesis
+pub mod Rows
+pub mod Running

@@ -1,0 +1,40 @@
+// The figures of a hypothesis.
+use measure::Hypothesis;
+ghost use mathlib.Core.Path.{_≡_};
+ghost use Rattle.figures.specs.Hypothesis.{caseOf, hypothesisFigures};
+
+// A case of the hypothesis as numbers.
+pub struct HypothesisCase {
+    pub number: f64,
+    pub offset_hz: f64,
+}
+
+pub fn case_of(h: Hypothesis) -> HypothesisCase
+    ensures { λ r. ⌜ r ≡ caseOf h ⌝ }
+{
+    match h {
+        Hypothesis::OneSignal => HypothesisCase {
+            number: 0.0,
+            offset_hz: 0.0,
+        },
+        Hypothesis::TwoSignalCw { offset_hz: f } => HypothesisCase {
+            number: 1.0,
+            offset_hz: f,
+        },
+        Hypothesis::NonCw => HypothesisCase {
+            number: 2.0,
+            offset_hz: 0.0,
+        },
+        Hypothesis::Unresolved => HypothesisCase {
+            number: 3.0,
+            offset_hz: 0.0,
+        },
+    }
+}
+
+pub fn of_hypothesis(h: Hypothesis) -> [f64; 2]
+    ensures { λ r. ⌜ r ≡ hypothesisFigures h ⌝ }
+{
+    let c = case_of(h);
+    [c.number, c.offset_hz]
+}

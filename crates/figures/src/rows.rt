@@ -1,0 +1,51 @@
+// The figures of the amplitude row with its threshold, and of the blocks' classes.
+use crate::count::count;
+use elements::AmplitudeRow;
+use elements::Threshold;
+use given::BlockClasses;
+ghost use mathlib.Core.Path.{_≡_};
+ghost use Rattle.figures.specs.Rows.{thresholdPresent, thresholdValue, rowFigures, classesFigures};
+
+// 1.0 where there is a threshold, 0.0 where it is absent.
+fn threshold_present(t: Threshold) -> f64
+    ensures { λ r. ⌜ r ≡ thresholdPresent t ⌝ }
+{
+    match t {
+        Threshold::At(_) => 1.0,
+        Threshold::Absent => 0.0,
+    }
+}
+
+// The threshold, 0.0 where it is absent.
+fn threshold_value(t: Threshold) -> f64
+    ensures { λ r. ⌜ r ≡ thresholdValue t ⌝ }
+{
+    match t {
+        Threshold::At(thr) => thr,
+        Threshold::Absent => 0.0,
+    }
+}
+
+pub fn of_row(row: AmplitudeRow) -> [f64; 3]
+    ensures { λ r. ⌜ r ≡ rowFigures row ⌝ }
+{
+    let threshold = row.threshold;
+    [
+        count(row.amplitudes),
+        threshold_present(threshold),
+        threshold_value(threshold),
+    ]
+}
+
+pub fn of_classes(b: BlockClasses) -> [f64; 5]
+    ensures { λ r. ⌜ r ≡ classesFigures b ⌝ }
+{
+    let counts = b.counts;
+    [
+        count(b.blocks),
+        count(counts.edge),
+        count(counts.interior),
+        count(counts.gap),
+        count(counts.other),
+    ]
+}

@@ -1,0 +1,10 @@
+-- Laws that the proofs of `given` share and that the crates above cite, by subject.
+
+-- BlocksAccepted, ResidualAccepted, EvidenceAccepted, SubtractAccepted
+--             of each call: what it goes on with, `residual-accepted`; its result by its parts, `residual-result`; what
+--             its promise says: `residual-refused`, `residual-done`; a refusal's number is that of a question it asks:
+--             `residual-number`; with a yes to each it is done: `residual-accepts`
+pub mod BlocksAccepted
+pub mod ResidualAccepted
+pub mod EvidenceAccepted
+pub mod SubtractAccepted

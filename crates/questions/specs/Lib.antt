@@ -1,0 +1,3 @@
+-- What the contracts of `questions` cite, and what every call answers.
+pub mod Questions
+pub mod Answers
