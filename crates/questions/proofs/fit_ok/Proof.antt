@@ -1,9 +1,9 @@
--- `questions::questions::fit_ok` meets its contract. Assumes nothing.
+-- `questions::fit_ok` meets its contract. Assumes nothing.
 use borrow.Author.Needs.{needs}
 use Rattle.questions.specs.Questions.{fitOk}
 use Rattle.questions.proofs.Given.{answers}
-use Rattle.questions.proofs.questions.fit_ok.Statement.{statement}
-use Rattle.questions.proofs.questions.fit_ok.Tie as tie
+use Rattle.questions.proofs.fit_ok.Statement.{statement}
+use Rattle.questions.proofs.fit_ok.Tie as tie
 
 returns : tie.Need-returns
 unfolding fitOk

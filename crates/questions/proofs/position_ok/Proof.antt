@@ -1,9 +1,9 @@
--- `questions::questions::position_ok` meets its contract. Assumes nothing.
+-- `questions::position_ok` meets its contract. Assumes nothing.
 use borrow.Author.Needs.{needs}
 use lib.Ieee.{ofBits}
 use Rattle.questions.specs.Questions.{positionOk}
-use Rattle.questions.proofs.questions.position_ok.Statement.{statement}
-use Rattle.questions.proofs.questions.position_ok.Tie as tie
+use Rattle.questions.proofs.position_ok.Statement.{statement}
+use Rattle.questions.proofs.position_ok.Tie as tie
 
 returns : tie.Need-returns
 unfolding positionOk ofBits

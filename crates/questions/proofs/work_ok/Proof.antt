@@ -1,12 +1,12 @@
--- `questions::questions::work_ok` meets its contract. Assumes nothing.
+-- `questions::work_ok` meets its contract. Assumes nothing.
 use mathlib.Core.Path.{sym}
 use Prim.Native.Nat.{_*_}
 use native.Mathlib.Omega.{arith}
 use borrow.Author.Needs.{needs}
 use borrow.Author.Tests.{le-leb, lt-leb}
 use Rattle.questions.specs.Questions.{workOk}
-use Rattle.questions.proofs.questions.work_ok.Statement.{statement}
-use Rattle.questions.proofs.questions.work_ok.Tie as tie
+use Rattle.questions.proofs.work_ok.Statement.{statement}
+use Rattle.questions.proofs.work_ok.Tie as tie
 
 returns : tie.Need-returns
 unfolding workOk

@@ -1,12 +1,12 @@
--- `questions::questions::window_blocks` meets its contract. Assumes nothing.
+-- `questions::window_blocks` meets its contract. Assumes nothing.
 use Prim.Native.Nat.{ℕ, _/_}
 use native.Mathlib.Nat.{div-div-eq-div-mul, mul-comm}
 use mathlib.Core.Path.{ap, _∙_}
 use borrow.Author.Needs.{needs}
 use Rattle.row.specs.Window.{stepOf}
 use Rattle.row.proofs.Steps.{step-low}
-use Rattle.questions.proofs.questions.window_blocks.Statement.{statement}
-use Rattle.questions.proofs.questions.window_blocks.Tie as tie
+use Rattle.questions.proofs.window_blocks.Statement.{statement}
+use Rattle.questions.proofs.window_blocks.Tie as tie
 
 div-result : tie.Need-div-result
 div-result c = let low = step-low (c .before .args .fs) in let step = c .edge-step .ensures in search needs

@@ -1,11 +1,11 @@
--- `questions::questions::row_places_ok` meets its contract. Assumes nothing.
+-- `questions::row_places_ok` meets its contract. Assumes nothing.
 use Prim.Native.Nat.{_-_}
 use native.Mathlib.Omega.{arith}
 use mathlib.Core.Path.{sym}
 use borrow.Author.Needs.{needs}
 use borrow.Author.Tests.{le-leb}
-use Rattle.questions.proofs.questions.row_places_ok.Statement.{statement}
-use Rattle.questions.proofs.questions.row_places_ok.Tie as tie
+use Rattle.questions.proofs.row_places_ok.Statement.{statement}
+use Rattle.questions.proofs.row_places_ok.Tie as tie
 
 returns : tie.Need-returns
 returns c = rw (← c .before .step-blocks .ensures) (sym (le-leb (c .before .step-blocks .result - 7) _ (omega arith)))

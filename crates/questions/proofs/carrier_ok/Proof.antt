@@ -1,8 +1,8 @@
--- `questions::questions::carrier_ok` meets its contract. Assumes nothing.
+-- `questions::carrier_ok` meets its contract. Assumes nothing.
 use borrow.Author.Needs.{needs}
 use Rattle.questions.specs.Questions.{carrierOk}
-use Rattle.questions.proofs.questions.carrier_ok.Statement.{statement}
-use Rattle.questions.proofs.questions.carrier_ok.Tie as tie
+use Rattle.questions.proofs.carrier_ok.Statement.{statement}
+use Rattle.questions.proofs.carrier_ok.Tie as tie
 
 returns : tie.Need-returns
 unfolding carrierOk

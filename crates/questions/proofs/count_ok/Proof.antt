@@ -1,8 +1,8 @@
--- `questions::questions::count_ok` meets its contract. Assumes nothing.
+-- `questions::count_ok` meets its contract. Assumes nothing.
 use borrow.Author.Tests.{eq-eqb, ne-eqb}
 use Rattle.questions.specs.Questions.{countOk}
-use Rattle.questions.proofs.questions.count_ok.Statement.{statement}
-use Rattle.questions.proofs.questions.count_ok.Tie as tie
+use Rattle.questions.proofs.count_ok.Statement.{statement}
+use Rattle.questions.proofs.count_ok.Tie as tie
 
 returns : tie.Need-returns
 unfolding countOk

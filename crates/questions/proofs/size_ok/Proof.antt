@@ -1,10 +1,10 @@
--- `questions::questions::size_ok` meets its contract. Assumes nothing.
+-- `questions::size_ok` meets its contract. Assumes nothing.
 use borrow.Author.Needs.{needs}
 use lib.Ieee.{ofBits}
 use Rattle.float.specs.Size.{sized}
 use Rattle.questions.specs.Questions.{sizeOk}
-use Rattle.questions.proofs.questions.size_ok.Statement.{statement}
-use Rattle.questions.proofs.questions.size_ok.Tie as tie
+use Rattle.questions.proofs.size_ok.Statement.{statement}
+use Rattle.questions.proofs.size_ok.Tie as tie
 
 returns : tie.Need-returns
 unfolding sizeOk sized ofBits

@@ -1,28 +1,28 @@
--- `questions::questions::element_ok` meets its contract. Assumes nothing.
+-- `questions::estimate_ok` meets its contract. Assumes nothing.
 use borrow.Author.Needs.{needs}
-use Rattle.questions.specs.Questions.{elementOk}
+use Rattle.questions.specs.Questions.{estimateOk}
 use Rattle.questions.proofs.Given.{answers}
-use Rattle.questions.proofs.questions.element_ok.Statement.{statement}
-use Rattle.questions.proofs.questions.element_ok.Tie as tie
+use Rattle.questions.proofs.estimate_ok.Statement.{statement}
+use Rattle.questions.proofs.estimate_ok.Tie as tie
 
 returns : tie.Need-returns
-unfolding elementOk
+unfolding estimateOk
 returns c = search answers depth 8
 
 returns-2 : tie.Need-returns-2
-unfolding elementOk
+unfolding estimateOk
 returns-2 c = search answers depth 8
 
 returns-3 : tie.Need-returns-3
-unfolding elementOk
+unfolding estimateOk
 returns-3 c = search answers depth 8
 
 returns-4 : tie.Need-returns-4
-unfolding elementOk
+unfolding estimateOk
 returns-4 c = search answers depth 8
 
-pub element-ok-spec : {M : Type 1} → statement M
-element-ok-spec =
+pub estimate-ok-spec : {M : Type 1} → statement M
+estimate-ok-spec =
     tie.close
     (tie.spec
     (λ c κs. search needs)
