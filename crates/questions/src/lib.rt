@@ -1,5 +1,5 @@
-// 01's questions, each once: yes or no. A call, in a crate above, asks those about what it is given, in the order of its
-// own file; callers call `cancel`, which does not hand the questions on.
+// 01's questions, each once: yes or no. A call, in a crate above, asks those about what it is given, in the order of
+// its own file; callers call `cancel`, which does not hand the questions on.
 use elements::ELEMENT;
 use elements::KeyedElement;
 use elements::element_at;
