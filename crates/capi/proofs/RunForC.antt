@@ -19,19 +19,19 @@ use Rattle.figures.specs.Running.{ranFigures}
 use Rattle.capi.specs.Running.{Left, runCalled, runTold, runCall}
 
 -- `promise` is what `cancel_run` ensures where it returns 0
-module _ (buf : List Float) (fs hint : Float) (elements fits work before after left fits-left scratch figures : List Float)
-    (promise : runCalled 0 (strongEstimate buf fs hint) after left fits-left scratch figures ≡ runCall buf fs hint elements fits work before) where
+module _ (buf : List Float) (fs hint : Float) (elements fits work figures-before buffer-after elements-after fits-after work-after figures : List Float)
+    (promise : runCalled 0 (strongEstimate buf fs hint) buffer-after elements-after fits-after work-after figures ≡ runCall buf fs hint elements fits work figures-before) where
   -- what C then has, as one call's result
   abbrev called : Called Left
   called =
       record {
         figures = figures;
-        lists = (after, handedElements left (strongEstimate buf fs hint .found .listed), handedFits fits-left (strongEstimate buf fs hint .fitted));
-        work = length scratch;
+        lists = (buffer-after, handedElements elements-after (strongEstimate buf fs hint .found .listed), handedFits fits-after (strongEstimate buf fs hint .fitted));
+        work = length work-after;
       }
 
-  accepted-told : (rule : Outcome RunResult) → rule ≡ runRule buf fs hint elements fits work → accepted called ≡ forC runTold before rule
-      → (figures ≡ ranFigures (runFigures buf fs hint)) × (runOutcome (Done (runFigures buf fs hint)) after left fits-left scratch ≡ runRule buf fs hint elements fits work)
+  accepted-told : (rule : Outcome RunResult) → rule ≡ runRule buf fs hint elements fits work → accepted called ≡ forC runTold figures-before rule
+      → (figures ≡ ranFigures (runFigures buf fs hint)) × (runOutcome (Done (runFigures buf fs hint)) buffer-after elements-after fits-after work-after ≡ runRule buf fs hint elements fits work)
   unfolding runFigures
   accepted-told (refused n lent) q e = let never : _≡_ {A = ℕ} 0 1 = cc in absurd (omega arith)
   accepted-told (accepted r) q e =
@@ -44,6 +44,6 @@ module _ (buf : List Float) (fs hint : Float) (elements fits work before after l
             ∙ q,
       )
 
-  pub run-for-c : (figures ≡ ranFigures (runFigures buf fs hint)) × (runOutcome (Done (runFigures buf fs hint)) after left fits-left scratch ≡ runRule buf fs hint elements fits work)
+  pub run-for-c : (figures ≡ ranFigures (runFigures buf fs hint)) × (runOutcome (Done (runFigures buf fs hint)) buffer-after elements-after fits-after work-after ≡ runRule buf fs hint elements fits work)
   unfolding runCall byNumber
   run-for-c = accepted-told (runRule buf fs hint elements fits work) refl promise
