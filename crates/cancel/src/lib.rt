@@ -1,6 +1,6 @@
 // The calls open to callers, a file each: it asks 01's questions in its order, then does the work. None has a
-// `requires`; the questions themselves are not open. The calls at a given estimate stand in crate `given` and are
-// handed on from here.
+// `requires`; the questions themselves are not open. The calls at a given estimate stand in crate `given`, `classify`,
+// which asks nothing, in crate `measure`: both are handed on from here.
 mod amplitude;
 mod estimate;
 mod find;

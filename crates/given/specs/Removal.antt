@@ -20,7 +20,8 @@ abbrev pub subtractOutcome : SubtractAnswer → List Float → Outcome (List Flo
 subtractOutcome (Refused n) buf = refused n (buf ∷ [])
 subtractOutcome Done buf = accepted buf
 
--- The first no is the result, and nothing is written; else the buffer holds what the fits, in order, leave of it.
+-- The first no is the result, and nothing is written; else the buffer holds what the fits, in order, leave of it. The
+-- carrier step and the elements are asked about and have no part in it.
 unfoldable pub subtractRule : List Float → Float → Float → Float → List Float → ℕ → List Float → ℕ → Outcome (List Float)
 subtractRule buf fs hz step elements element-count fits fit-count =
     byNumber (firstNo (subtractQuestions buf fs hz step elements element-count fits fit-count)) (subtracted fs (hz ⊘ fs) buf (fitsIn fits fit-count))

@@ -1,5 +1,5 @@
 -- What yes to a question shows, and the two ways out of a call. What a call has where every answer is yes stands in
--- a file of its own. Assumes nothing.
+-- a file of the call's crate. Assumes nothing.
 use Prim.Native.Nat.{ℕ, zero, suc, _*_, _/_, _%_, _≤_}
 use native.Mathlib.Omega.{arith}
 use mathlib.Core.Path.{_≡_, refl, sym, ap, subst, _∙_}

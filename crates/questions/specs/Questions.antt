@@ -66,7 +66,7 @@ allOk ok at places count = leb count places && every (λ p. ok (at p)) count
 abbrev pub elementsOk : List Float → ℕ → Bool
 elementsOk l count = allOk elementOk (elementAt l) (length l / ELEMENT) count
 
--- Are the numbers of a given fit?
+-- Are the numbers of a given fit such numbers?
 unfoldable pub fitOk : ElementFit → Bool
 fitOk f =
     elementOk (f .element) && sizeOk (f .gain .re) && sizeOk (f .gain .im) && sizeOk (f .«slope_rad_per_sample»)
@@ -75,7 +75,7 @@ fitOk f =
 abbrev pub fitsOk : List Float → ℕ → Bool
 fitsOk l count = allOk fitOk (fitAt l) (length l / FIT) count
 
--- And those of a given estimate: its carrier and carrier step, its elements and its fits?
+-- Are those of a given estimate: its carrier and carrier step, its elements and its fits?
 unfoldable pub estimateOk : Float → Float → List Float → ℕ → List Float → ℕ → Bool
 estimateOk carrier step elements element-count fits fit-count =
     sizeOk carrier && sizeOk step && elementsOk elements element-count && fitsOk fits fit-count

@@ -1,5 +1,5 @@
-// 01's questions, each once: yes or no. A call, in a crate above, asks those about what it is given, in the order of
-// its own file; callers call `cancel`, which does not hand the questions on.
+// 01's questions, each once: yes or no; 1 and 3 are answered by crate row. A call, in a crate above, asks those about
+// what it is given, in the order of its own file; callers call `cancel`, which does not hand the questions on.
 use elements::ELEMENT;
 use elements::KeyedElement;
 use elements::element_at;
@@ -16,7 +16,6 @@ ghost use Rattle.classes.specs.Classify.{blocksOf};
 ghost use Rattle.questions.specs.Questions.{firstNo, recordingQuestions, countOk, carrierOk, placesOk, workOk, sizeOk, positionOk, elementOk, elementsOk, fitOk, fitsOk, estimateOk};
 
 // 1 to 3, which every call that is lent a recording asks first: the number of the first no, 0 where there is none.
-// Questions 1 and 3 are answered by crate row.
 pub fn recording_no(iq: &[f32], fs: f64) -> u64
     ensures { λ r. ⌜ r ≡ firstNo (recordingQuestions (now (iq .entry)) fs) ⌝ }
 {
@@ -50,7 +49,7 @@ pub fn carrier_ok(fs: f64, hz: f64) -> bool
     }
 }
 
-// 5, of a list that a find fills: it has at least floor(B/2) places.
+// 5, of a list of found elements or of their fits: it has at least floor(B/2) places.
 pub fn find_places_ok(iq: &[f32], fs: f64, places: usize) -> bool
     ensures { λ r. ⌜ r ≡ placesOk (stepBlocks (now (iq .entry)) fs / 2) places ⌝ }
 {

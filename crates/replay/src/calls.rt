@@ -7,12 +7,12 @@ use cancel::Figures;
 use cancel::FindAnswer;
 use cancel::FitAnswer;
 use cancel::Found;
-use cancel::Hypothesis;
 use cancel::Offset;
 use cancel::ResidualAnswer;
 use cancel::RunAnswer;
 use cancel::SecondCarrierEvidence;
 use cancel::SubtractAnswer;
+use figures::case_of;
 use figures::of_estimate;
 use figures::of_evidence;
 use figures::of_find;
@@ -43,16 +43,6 @@ pub struct Ran {
     pub hypothesis: usize,
     pub taken: bool,
     pub changed: u64,
-}
-
-// The number of a hypothesis, by which runs are counted: 0 OneSignal, 1 TwoSignalCw, 2 NonCw, 3 Unresolved.
-fn number(h: Hypothesis) -> usize {
-    match h {
-        Hypothesis::OneSignal => 0,
-        Hypothesis::TwoSignalCw { offset_hz: _ } => 1,
-        Hypothesis::NonCw => 2,
-        Hypothesis::Unresolved => 3,
-    }
 }
 
 // Where a case's figures begin, in bytes.
@@ -374,13 +364,14 @@ fn run_done(
     elements: &[f64],
     fits: &[f64],
 ) -> Ran {
-    let h = f.hypothesis;
+    let hypothesis = f.hypothesis;
+    let h = case_of(hypothesis);
     let answers = run_filled(a, f, body, stored_elements, stored_fits, elements, fits);
     let leaves = left_as_stored(a, buf, iq, left);
     Ran {
         equal: if answers { leaves } else { false },
         no: 0,
-        hypothesis: number(h),
+        hypothesis: float::to_whole(h.number),
         taken: f.taken,
         changed: changed(buf, iq),
     }

@@ -1,6 +1,5 @@
 -- `given::second_carrier_evidence` meets its contract: the first no is the answer, and where there is none, what the
--- work
--- below measures. Assumes nothing.
+-- work below measures. Assumes nothing.
 use native.Mathlib.Omega.{arith}
 use mathlib.Core.Path.{_≡_, sym, _∙_}
 use denote.Ref.{now}
