@@ -14,9 +14,9 @@
 --             `handed-exactly`; counted are all key-downs of the row: `counted-exactly`; without a threshold nothing:
 --             `found-nothing`, `handed-nothing`, `counted-nothing`
 -- Ways        the ways out of `find_elements`
--- Amplitudes  numbers at the first places of a list: `numbers-handed`, `numbers-read`, `copied-handed`; the ways out of
---             `amplitude_row`: `row-short`, `row-made`; key-downs by the numbers handed out: `found-by-row`,
---             `elements-by-row`
+-- Amplitudes  numbers at the first places of a list: `numbers-handed`, `numbers-read`, `copied-handed`; the row in the
+--             work slice: `row-empty`, `row-read`, how long it is: `row-size`, `row-few`; in a lent list: `row-made`;
+--             key-downs by the numbers handed out: `found-by-row`, `elements-by-row`
 -- Edges       at fs 3,000: `step-3000`, `window-3000`
 pub mod Records
 pub mod Reached

@@ -1,13 +1,13 @@
 // The elements of a recording at a carrier.
+use crate::amplitude::make_row;
 use crate::keying::Found;
 use crate::keying::scan;
 use constants::EDGE_PERCENTILE;
 use rank::Percentile;
 use rank::select::percentile;
-use row::amplitudes;
 use row::edge_step;
 ghost use mathlib.Core.Path.{_≡_};
-ghost use Prim.Native.Nat.{_+_, _-_, _*_, _/_, _≤_, _<_};
+ghost use Prim.Native.Nat.{_*_, _/_, _≤_};
 ghost use lib.ListN.{length};
 ghost use Rattle.trig.specs.Circle.{quarterSines};
 ghost use Rattle.row.specs.Window.{Rate, stepBlocks};
@@ -15,8 +15,8 @@ ghost use Rattle.row.specs.Samples.{Iq};
 ghost use Rattle.elements.specs.Element.{ELEMENT, handed, handedElements};
 ghost use Rattle.elements.specs.Find.{foundOf, elementsFound};
 
-// Rust: find_elements, which answers the elements as a list of its own and counts nothing. The row lies in the work
-// slice, behind the block means.
+// Rust: find_elements, which answers the elements as a list of its own and counts nothing. Its way out for n < window
+// needs no test here: the row is then empty and has no percentile.
 pub fn find_elements(
     iq: &[f32],
     fs: f64,
@@ -34,22 +34,13 @@ pub fn find_elements(
         × (handedElements (now (elements .exit)) (r .listed)
         ≡ handed ELEMENT (elementsFound (now (iq .entry)) fs carrier) (now (elements .entry))) ⌝ }
 {
-    let step = edge_step(fs);
-    let n = iq.len() / 2;
-    if n < 8 * step {
-        return Found::NO_KEY_DOWNS;
-    }
-    let b = n / step;
-    let from = 2 * b;
-    let to = from + (b - 7);
-    amplitudes(iq, carrier / fs, step, work, sine);
-    let row = &work[from..to];
+    let row = make_row(iq, fs, carrier, work, sine);
     let Percentile::Value(top) = percentile(row, EDGE_PERCENTILE) else {
         return Found::NO_KEY_DOWNS;
     };
     let thr = 0.5 * top;
     if thr > 0.0 {
-        scan(row, thr, step, fs, elements)
+        scan(row, thr, edge_step(fs), fs, elements)
     } else {
         Found::NO_KEY_DOWNS
     }
