@@ -5,8 +5,6 @@
 --             `numbers-told`
 -- RunTold     the same of a run: `run-told`
 -- RunForC     a run that returns 0 to C is an accepted run: `run-for-c`
--- Units       the loop of cancel_cos_sin: `unit-is`, ruleset `stores`
 pub mod Ways
 pub mod RunTold
 pub mod RunForC
-pub mod Units

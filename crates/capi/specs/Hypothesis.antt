@@ -1,19 +1,12 @@
 -- What cancel_classify returns and leaves in what it was lent (include/cancel.h). Definitions only.
-use Prim.Native.Nat.{ℕ, zero, suc}
+use Prim.Native.Nat.{ℕ}
 use mathlib.Core.List.{List, [], _∷_}
 use lib.Ieee.{Float}
-use Rattle.measure.specs.declared.offset.Offset.{Offset}
-use Rattle.measure.specs.declared.offset.Offset.the-variants.{Hz, Absent}
 use Rattle.measure.specs.Hypothesis.{hypothesisOf}
 use Rattle.questions.specs.Answers.{Outcome, accepted, byNumber}
-use Rattle.figures.specs.Hypothesis.{hypothesisFigures}
+use Rattle.figures.specs.Hypothesis.{hypothesisFigures, givenOffset}
 
 -- ---- cancel_classify
-
--- an offset that is given as two numbers: 0 says absent, anything else present
-abbrev pub givenOffset : ℕ → Float → Offset
-givenOffset zero f = Absent
-givenOffset (suc n) f = Hz f
 
 -- of the number that is returned, with the figures that then stand
 abbrev pub classifyCalled : ℕ → List Float → Outcome (List Float)

@@ -1,12 +1,11 @@
 // The functions of 01, part 1, that stand in for the platform's.
-use complex::Complex;
 ghost use mathlib.Core.Path.{_≡_};
-ghost use Prim.Native.Nat.{_/_, _≤_, min};
+ghost use Prim.Native.Nat.{_/_, min};
 ghost use lib.ListN.{length};
 ghost use Rattle.complex.specs.Rows.{zFill};
-ghost use Rattle.capi.specs.Functions.{unitOf, unitAt};
+ghost use Rattle.complex.specs.Units.{unitAt};
 ghost use Rattle.float.specs.Single.{narrowOf};
-ghost use Rattle.trig.specs.Circle.{quarterSines, sinOf, cosOf};
+ghost use Rattle.trig.specs.Circle.{sinOf, cosOf};
 ghost use Rattle.trig.specs.Argument.{argOf};
 ghost use Rattle.trig.specs.Logarithm.{log10Of};
 ghost use Rattle.complex.specs.Value.{cNew, cNorm};
@@ -28,35 +27,6 @@ pub extern "C" fn cancel_cos(x: f64) -> f64
     trig::cos(x, &sine)
 }
 
-fn unit(x: f64, sine: &[f64; 1025]) -> Complex
-    requires { ⌜ now sine ≡ quarterSines ⌝ }
-    ensures { λ r. ⌜ r ≡ unitOf x ⌝ }
-{
-    let p = trig::sin_cos(x, sine);
-    Complex {
-        re: p.cos,
-        im: p.sin,
-    }
-}
-
-// The smaller of two lengths.
-fn shorter(a: usize, b: usize) -> usize
-    ensures { λ r. ⌜ (r ≤ a) × (r ≤ b) × (r ≡ min a b) ⌝ }
-{
-    if a <= b { a } else { b }
-}
-
-fn units(angles: &[f64], out: &mut [f64], n: usize, sine: &[f64; 1025])
-    requires { ⌜ now sine ≡ quarterSines ⌝ }
-    requires { ⌜ (n ≤ length (now angles)) × (n ≤ length (now out) / 2) ⌝ }
-    ensures { λ _. ⌜ now (out .exit) ≡ zFill (now (out .entry)) 0 (unitAt (now (angles .entry))) n ⌝ }
-{
-    for k in 0..n {
-        let z = unit(angles[k], sine);
-        complex::put(out, k, z);
-    }
-}
-
 // The cosine and the sine of each angle, as complex numbers of `out`, for as many angles as have room there; their
 // number. The table is made once.
 #[no_mangle]
@@ -65,9 +35,7 @@ pub extern "C" fn cancel_cos_sin(angles: &[f64], out: &mut [f64]) -> usize
         × (now (out .exit) ≡ zFill (now (out .entry)) 0 (unitAt (now (angles .entry))) (min (length (now (angles .entry))) (length (now (out .entry)) / 2))) ⌝ }
 {
     let sine = trig::sine_table();
-    let n = shorter(angles.len(), out.len() / 2);
-    units(angles, out, n, &sine);
-    n
+    complex::cos_sin(angles, out, &sine)
 }
 
 #[no_mangle]

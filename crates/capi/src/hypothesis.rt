@@ -1,19 +1,9 @@
 // The hypothesis, for C.
-use cancel::Offset;
 use cancel::SecondCarrierEvidence;
+use figures::given_offset;
 use figures::of_hypothesis;
 ghost use mathlib.Core.Path.{_≡_};
-ghost use Rattle.capi.specs.Hypothesis.{givenOffset, classifyCalled, classifyCall};
-
-// The offset of an evidence that is given as numbers.
-fn given_offset(present: u64, hz: f64) -> Offset
-    ensures { λ r. ⌜ r ≡ givenOffset present hz ⌝ }
-{
-    if present == 0 {
-        return Offset::Absent;
-    }
-    Offset::Hz(hz)
-}
+ghost use Rattle.capi.specs.Hypothesis.{classifyCalled, classifyCall};
 
 // It asks nothing and returns 0.
 #[no_mangle]

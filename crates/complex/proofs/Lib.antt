@@ -6,5 +6,7 @@
 -- Bounds      how large the parts of a result are: `CBounded`; `cbounded-add`, `cbounded-sub`, `cbounded-mul`,
 --             `cbounded-conj`, `cbounded-div`, `cbounded-sum`, `cbounded-mean`; the norm is finite and not negative:
 --             `norm-amount`
+-- Angles      the loop that stores a unit for each angle: `unit-is`, ruleset `stores`
 pub mod RowLaws
 pub mod Bounds
+pub mod Angles

@@ -1,7 +1,8 @@
-// The figures of a hypothesis.
+// The figures of a hypothesis, and the offset of an evidence that is given as figures.
 use measure::Hypothesis;
+use measure::Offset;
 ghost use mathlib.Core.Path.{_≡_};
-ghost use Rattle.figures.specs.Hypothesis.{caseOf, hypothesisFigures};
+ghost use Rattle.figures.specs.Hypothesis.{caseOf, hypothesisFigures, givenOffset};
 
 // A case of the hypothesis as numbers.
 pub struct HypothesisCase {
@@ -37,4 +38,14 @@ pub fn of_hypothesis(h: Hypothesis) -> [f64; 2]
 {
     let c = case_of(h);
     [c.number, c.offset_hz]
+}
+
+// The offset of an evidence that is given as two numbers, present and the offset.
+pub fn given_offset(present: u64, hz: f64) -> Offset
+    ensures { λ r. ⌜ r ≡ givenOffset present hz ⌝ }
+{
+    if present == 0 {
+        return Offset::Absent;
+    }
+    Offset::Hz(hz)
 }

@@ -12,6 +12,7 @@ pub use calls::of_find;
 pub use calls::of_fit;
 pub use hypothesis::HypothesisCase;
 pub use hypothesis::case_of;
+pub use hypothesis::given_offset;
 pub use hypothesis::of_hypothesis;
 pub use measures::of_evidence;
 pub use measures::of_residual;

@@ -12,7 +12,7 @@ use Rattle.float.specs.Compare.{absOf}
 use Rattle.float.specs.Whole.{floorOf}
 use Rattle.float.specs.Size.{finiteF, sized, 2^}
 use Rattle.row.specs.Samples.{allFinite}
-use Rattle.row.specs.Window.{rateOk}
+use Rattle.row.specs.Window.{rateOk, stepOf}
 use Rattle.elements.specs.declared.element.KeyedElement.{KeyedElement}
 use Rattle.elements.specs.Element.{ELEMENT, elementAt}
 use Rattle.fits.specs.declared.fit.ElementFit.{ElementFit}
@@ -46,6 +46,11 @@ placesOk need places = leb need places
 -- 6. Has the f64 work slice at least 4 × B numbers?
 unfoldable pub workOk : ℕ → ℕ → Bool
 workOk b len = leb (4 * b) len
+
+-- B = floor(n/step), of a recording that is lent as so many numbers, two a sample, for whoever has to lend enough; 0 where
+-- question 1 refuses fs
+unfoldable pub blocksFor : ℕ → Float → ℕ
+blocksFor len fs = cond (rateOk fs) (len / 2 / stepOf fs) 0
 
 -- 7. Is a given number finite and of size at most 2^200?
 unfoldable pub sizeOk : Float → Bool

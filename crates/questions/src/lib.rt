@@ -13,7 +13,7 @@ ghost use Prim.Native.Nat.{_/_};
 ghost use Rattle.row.specs.Window.{stepBlocks};
 ghost use Rattle.row.specs.Envelope.{rowLength};
 ghost use Rattle.classes.specs.Classify.{blocksOf};
-ghost use Rattle.questions.specs.Questions.{firstNo, recordingQuestions, countOk, carrierOk, placesOk, workOk, sizeOk, positionOk, elementOk, elementsOk, fitOk, fitsOk, estimateOk};
+ghost use Rattle.questions.specs.Questions.{blocksFor, firstNo, recordingQuestions, countOk, carrierOk, placesOk, workOk, sizeOk, positionOk, elementOk, elementsOk, fitOk, fitsOk, estimateOk};
 
 // 1 to 3, which every call that is lent a recording asks first: the number of the first no, 0 where there is none.
 pub fn recording_no(iq: &[f32], fs: f64) -> u64
@@ -72,6 +72,17 @@ pub fn row_places_ok(iq: &[f32], fs: f64, places: usize) -> bool
         return true;
     }
     b - 7 <= places
+}
+
+// B, of a recording that is lent as iq_len numbers, for whoever has to lend enough; 0 where question 1 refuses fs.
+pub fn blocks_for(iq_len: usize, fs: f64) -> usize
+    ensures { λ r. ⌜ r ≡ blocksFor «iq_len» fs ⌝ }
+{
+    if row::rate_ok(fs) {
+        iq_len / 2 / edge_step(fs)
+    } else {
+        0
+    }
 }
 
 // How many whole blocks of `window` samples so many f32 have. The window is 8 steps; the product is small only where

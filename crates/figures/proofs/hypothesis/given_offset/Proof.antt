@@ -1,12 +1,12 @@
--- `capi::hypothesis::given_offset` meets its contract. Assumes nothing.
+-- `figures::hypothesis::given_offset` meets its contract. Assumes nothing.
 use Prim.Native.Nat.{ℕ, zero, suc}
 use mathlib.Core.Path.{_≡_, refl}
 use lib.Ieee.{Float}
 use borrow.Author.Needs.{needs}
 use Rattle.measure.specs.declared.offset.Offset.the-variants.{Hz}
-use Rattle.capi.specs.Hypothesis.{givenOffset}
-use Rattle.capi.proofs.hypothesis.given_offset.Statement.{statement}
-use Rattle.capi.proofs.hypothesis.given_offset.Tie as tie
+use Rattle.figures.specs.Hypothesis.{givenOffset}
+use Rattle.figures.proofs.hypothesis.given_offset.Statement.{statement}
+use Rattle.figures.proofs.hypothesis.given_offset.Tie as tie
 
 given : (n : ℕ) (f : Float) → (n ≡ 0 → ⊥) → Hz f ≡ givenOffset n f
 given zero f h = absurd (h refl)

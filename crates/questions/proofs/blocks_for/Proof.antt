@@ -1,10 +1,10 @@
--- `capi::blocks::cancel_blocks` meets its contract: a step is at least 1. Assumes nothing.
+-- `questions::blocks_for` meets its contract: a step is at least 1. Assumes nothing.
 use native.Mathlib.Omega.{arith}
 use borrow.Author.Needs.{needs}
 use Rattle.row.proofs.Steps.{step-low}
-use Rattle.capi.specs.Blocks.{blocksFor}
-use Rattle.capi.proofs.blocks.cancel_blocks.Statement.{statement}
-use Rattle.capi.proofs.blocks.cancel_blocks.Tie as tie
+use Rattle.questions.specs.Questions.{blocksFor}
+use Rattle.questions.proofs.blocks_for.Statement.{statement}
+use Rattle.questions.proofs.blocks_for.Tie as tie
 
 div-result : tie.Need-div-result
 div-result c = omega (arith, step-low (c .before .before .before .args .fs), c .edge-step .ensures)
@@ -17,5 +17,5 @@ returns-2 : tie.Need-returns-2
 unfolding blocksFor
 returns-2 c = rw (← c .before .rate-ok .ensures, c .if1 .left)
 
-pub cancel-blocks-spec : {M : Type 1} → statement M
-cancel-blocks-spec = tie.close (tie.spec (λ c κs. search needs) (λ c κs. search needs) div-result returns returns-2)
+pub blocks-for-spec : {M : Type 1} → statement M
+blocks-for-spec = tie.close (tie.spec (λ c κs. search needs) (λ c κs. search needs) div-result returns returns-2)

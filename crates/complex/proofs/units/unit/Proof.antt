@@ -1,8 +1,8 @@
--- `capi::functions::unit` meets its contract. Assumes nothing.
+-- `complex::units::unit` meets its contract. Assumes nothing.
 use borrow.Author.Needs.{needs}
-use Rattle.capi.specs.Functions.{unitOf}
-use Rattle.capi.proofs.functions.unit.Statement.{statement}
-use Rattle.capi.proofs.functions.unit.Tie as tie
+use Rattle.complex.specs.Units.{unitOf}
+use Rattle.complex.proofs.units.unit.Statement.{statement}
+use Rattle.complex.proofs.units.unit.Tie as tie
 
 returns : tie.Need-returns
 unfolding unitOf

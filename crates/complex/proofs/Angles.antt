@@ -5,9 +5,9 @@ use mathlib.Core.List.{List}
 use lib.ListN.{getD}
 use lib.Ieee.{Float, nan}
 use borrow.Author.Needs.{needs}
 use Rattle.complex.specs.declared.value.Complex.{Complex}
 use Rattle.complex.proofs.RowLaws.{zFill-none, zFill-turn0, zFill-done}
-use Rattle.capi.specs.Functions.{unitOf, unitAt}
+use Rattle.complex.specs.Units.{unitOf, unitAt}
 
 pub unit-is : (angles : List Float) (k : ℕ) (z : Complex) → z ≡ unitOf (getD angles k nan) → z ≡ unitAt angles k
 unfolding unitAt
