@@ -7,7 +7,7 @@ ghost use Rattle.complex.specs.Units.{unitAt};
 ghost use Rattle.float.specs.Single.{narrowOf};
 ghost use Rattle.trig.specs.Circle.{sinOf, cosOf};
 ghost use Rattle.trig.specs.Argument.{argOf};
-ghost use Rattle.trig.specs.Logarithm.{log10Of};
+ghost use Rattle.logarithm.specs.Logarithm.{log10Of};
 ghost use Rattle.complex.specs.Value.{cNew, cNorm};
 
 // The table is made at each call here: many angles are for cancel_cos_sin.
@@ -56,7 +56,7 @@ pub extern "C" fn cancel_norm(re: f64, im: f64) -> f64
 pub extern "C" fn cancel_log10(y: f64) -> f64
     ensures { λ r. ⌜ r ≡ log10Of y ⌝ }
 {
-    trig::log10(y)
+    logarithm::log10(y)
 }
 
 #[no_mangle]

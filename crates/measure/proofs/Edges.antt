@@ -9,7 +9,7 @@ use lib.ListN.{length}
 use lib.Ieee.{Float, nan, inf, neg, lt, le, eq, isNan, ofBits, ofInt, round, add, sub, mul, div}
 use Rattle.float.specs.Ops.{of, fraction, half, plus-zero}
 use Rattle.float.specs.Compare.{maxOf}
-use Rattle.trig.specs.Logarithm.{mantissaOf, exponentOf, series, logOf, log10Of}
+use Rattle.logarithm.specs.Logarithm.{mantissaOf, exponentOf, series, logOf, log10Of}
 use Rattle.trig.specs.Consts.{LN-2, LN-10}
 use Rattle.constants.specs.Constants.{MIN_POSITIVE, CLEAN_EDGE_OVER_NEIGHBOUR_DB, CLEAN_INTERIOR_OVER_NEIGHBOUR_DB}
 use Rattle.complex.specs.declared.value.Complex.{Complex}

@@ -4,7 +4,7 @@ use mathlib.Core.Bool.{true, false}
 use lib.Ieee.{Float, inf, lt, le, ofBits, ofInt, div}
 use Rattle.float.specs.Ops.{_⊗_, _⊘_, bits, of, plus-zero, one}
 use Rattle.float.specs.Compare.{maxOf}
-use Rattle.trig.specs.Logarithm.{log10Of}
+use Rattle.logarithm.specs.Logarithm.{log10Of}
 use Rattle.constants.proofs.Bits.{min-positive-bits}
 use Rattle.rank.specs.declared.Percentile.{Percentile}
 use Rattle.rank.specs.declared.Percentile.the-variants.{Value, Nothing}

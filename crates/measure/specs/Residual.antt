@@ -7,7 +7,7 @@ use lib.ListN.{length}
 use lib.Ieee.{Float, inf, lt, le}
 use Rattle.float.specs.Ops.{_⊗_, _⊘_, of, plus-zero, half}
 use Rattle.float.specs.Compare.{maxOf}
-use Rattle.trig.specs.Logarithm.{log10Of}
+use Rattle.logarithm.specs.Logarithm.{log10Of}
 use Rattle.constants.specs.Constants.{NEIGHBOUR_PERCENTILE, MIN_POSITIVE, CLEAN_EDGE_OVER_NEIGHBOUR_DB, CLEAN_INTERIOR_OVER_NEIGHBOUR_DB}
 use Rattle.complex.specs.declared.value.Complex.{Complex}
 use Rattle.row.specs.Window.{windowOf, samples, blocks}

@@ -51,7 +51,7 @@ fn ratio_db(num: Percentile, den: Percentile) -> f64
         return infinity;
     };
     if d > 0.0 {
-        10.0 * trig::log10(float::max(n, MIN_POSITIVE) / d)
+        10.0 * logarithm::log10(float::max(n, MIN_POSITIVE) / d)
     } else {
         infinity
     }

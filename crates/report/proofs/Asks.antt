@@ -32,7 +32,8 @@ use Rattle.cancel.proofs.RunAccepted.{run-done}
 use Rattle.format.specs.Bytes.{bytesOk, INPUT, partAt}
 use Rattle.format.specs.Text.{Appended}
 use Rattle.format.proofs.Laws.{too-many}
-use Rattle.report.specs.Report.{RATE, HINT, ROOM, recordingOf, runLines, refusal, answered, reportOf}
+use Rattle.lines.specs.Lines.{runLines}
+use Rattle.report.specs.Report.{RATE, HINT, ROOM, recordingOf, refusal, answered, reportOf}
 use Rattle.report.proofs.Room.{blocks-few, listed-few, answered-most}
 
 -- ---- the code's literals

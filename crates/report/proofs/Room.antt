@@ -31,8 +31,9 @@ use Rattle.format.specs.Ascii.{ascii}
 use Rattle.format.specs.Bytes.{bytesOk, partAt}
 use Rattle.format.proofs.Laws.{parts-few}
 use Rattle.format.proofs.Lines.{line-most, pair-most}
-use Rattle.report.specs.Report.{RATE, HINT, ROOM, recordingOf, keyLine, keyLines, hypothesisLine, bufferLine, countLines, runLines, refusal, answered, reportQuestions, reportOf}
-use Rattle.report.proofs.Lengths.{count-length, run-length}
+use Rattle.lines.specs.Lines.{keyLine, keyLines, hypothesisLine, bufferLine, countLines, runLines}
+use Rattle.report.specs.Report.{RATE, HINT, ROOM, recordingOf, refusal, answered, reportQuestions, reportOf}
+use Rattle.lines.proofs.Lengths.{count-length, run-length}
 
 -- ---- the key lines
 

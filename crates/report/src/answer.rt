@@ -1,5 +1,4 @@
 // From the bytes of a recording to the bytes of its report.
-use crate::lines::run_lines;
 use cancel::RunAnswer;
 use elements::ELEMENT;
 use fits::FIT;
@@ -7,6 +6,7 @@ use format::INPUT;
 use format::bytes_ok;
 use format::line;
 use format::samples;
+use lines::run_lines;
 ghost use mathlib.Core.Path.{_≡_};
 ghost use mathlib.Core.List.{[], _∷_, _++_};
 ghost use Prim.Native.Nat.{_%_, _≤_};

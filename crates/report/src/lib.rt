@@ -1,6 +1,5 @@
 // The report on a recording that comes as bytes.
 pub mod answer;
-mod lines;
 
 pub use answer::ROOM;
 pub use answer::report;

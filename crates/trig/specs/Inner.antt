@@ -1,19 +1,8 @@
--- Not needed to read a public promise: where the table has a sine, and what `log10` reads off a bit pattern.
--- Definitions only.
-use Prim.Native.Nat.{ℕ, _+_, _-_, _*_, _/_, _%_, _^_}
+-- Not needed to read a public promise: where the table has a sine. Definitions only.
+use Prim.Native.Nat.{ℕ, _-_, _%_}
 use mathlib.Core.Bool.{cond}
 use lib.Dec.{leb}
-use lib.Ieee.{Float}
-use Rattle.float.specs.Ops.{bits}
 
 -- the place in the first quarter that has the sine of p/4096 turn, but for the sign
 abbrev pub folded : ℕ → ℕ
 folded p = cond (leb (p % 2048) 1024) (p % 2048) (2048 - p % 2048)
-
--- Of the bit pattern b of a normal number, y = m·2^e: m, and e with the bias of the exponent's field. The digits alone
--- are a number from 1 up to 2; from 1.5 on, where the first of them is 1, m is half of that.
-abbrev pub digitsOf : ℕ → Float
-digitsOf b = bits ((1023 - b % 2 ^ 52 / 2 ^ 51) * 2 ^ 52 + b % 2 ^ 52)
-
-abbrev pub fieldOf : ℕ → ℕ
-fieldOf b = b / 2 ^ 52 + b % 2 ^ 52 / 2 ^ 51
