@@ -61,7 +61,7 @@ use Rattle.engine.specs.declared.run.Figures.{Figures}
 use Rattle.engine.specs.Run.{takes, runClass, runTaken, runFigures, runBuffer}
 use Rattle.cancel.specs.declared.running.RunAnswer.the-variants.{Done}
 use Rattle.cancel.specs.Running.{runOutcome, runRule}
-use Rattle.cancel.proofs.EstimateAccepted.{estimate-accepted}
+use Rattle.strong.proofs.EstimateAccepted.{estimate-accepted}
 use Rattle.cancel.proofs.RunAccepted.{run-done}
 
 module _ (buf : List Float) (fs hint : Float) (elements fits work : List Float) (f : Figures) (buffer-after elements-after fits-after work-after : List Float)

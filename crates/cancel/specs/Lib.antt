@@ -1,6 +1,2 @@
--- What the contracts of `cancel` cite: each call in a file of its own.
-pub mod Amplitude
-pub mod Find
-pub mod Fit
-pub mod Estimate
+-- What the contract of `cancel::run` cites; those of the calls that are handed on stand in `strong` and `given`.
 pub mod Running

@@ -1,25 +1,13 @@
-// The calls open to callers, a file each: it asks 01's questions in its order, then does the work. None has a
-// `requires`; the questions themselves are not open. The calls at a given estimate stand in crate `given`, `classify`,
-// which asks nothing, in crate `measure`: both are handed on from here.
-mod amplitude;
-mod estimate;
-mod find;
-mod fit;
+// The calls open to callers. Each asks 01's questions in its order, then does the work; none has a `requires`, and the
+// questions themselves are not open. The run stands here; the calls that look for the strong sender stand in crate
+// `strong`, those at a given estimate in `given`, `classify`, which asks nothing, in `measure`: all are handed on.
 mod running;
 
-pub use amplitude::RowAnswer;
-pub use amplitude::amplitude_row;
 pub use classes::ClassCounts;
 pub use elements::AmplitudeRow;
 pub use elements::Found;
 pub use elements::Threshold;
 pub use engine::Figures;
-pub use estimate::EstimateAnswer;
-pub use estimate::estimate_strong;
-pub use find::FindAnswer;
-pub use find::find_elements;
-pub use fit::FitAnswer;
-pub use fit::fit_elements;
 pub use fits::Estimate;
 pub use given::BlockClasses;
 pub use given::ClassesAnswer;
@@ -37,3 +25,11 @@ pub use measure::SecondCarrierEvidence;
 pub use measure::classify;
 pub use running::RunAnswer;
 pub use running::run;
+pub use strong::EstimateAnswer;
+pub use strong::FindAnswer;
+pub use strong::FitAnswer;
+pub use strong::RowAnswer;
+pub use strong::amplitude_row;
+pub use strong::estimate_strong;
+pub use strong::find_elements;
+pub use strong::fit_elements;

@@ -9,9 +9,9 @@ use Rattle.fits.specs.declared.fit.ElementFit.{ElementFit}
 use Rattle.fits.specs.declared.estimate.Estimate.{Estimate}
 use Rattle.fits.specs.List.{handedFits}
 use Rattle.questions.specs.Answers.{Outcome, accepted, refused, byNumber}
-use Rattle.cancel.specs.Find.{FindResult, findRule}
-use Rattle.cancel.specs.Fit.{FitResult, fitRule}
-use Rattle.cancel.specs.Estimate.{EstimateResult, estimateRule}
+use Rattle.strong.specs.Find.{FindResult, findRule}
+use Rattle.strong.specs.Fit.{FitResult, fitRule}
+use Rattle.strong.specs.Estimate.{EstimateResult, estimateRule}
 use Rattle.figures.specs.Calls.{foundFigures, fittedFigures, estimateFigures}
 
 -- The result of an accepted call: its figures, what its lists hand out, of type A (with a run's buffer), and the length

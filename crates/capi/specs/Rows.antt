@@ -6,7 +6,7 @@ use lib.ListN.{length}
 use lib.Ieee.{Float}
 use Rattle.elements.specs.Element.{Handed, handedNumbers}
 use Rattle.questions.specs.Answers.{Outcome, byNumber}
-use Rattle.cancel.specs.Amplitude.{RowResult, rowRule}
+use Rattle.strong.specs.Amplitude.{RowResult, rowRule}
 use Rattle.given.specs.Blocks.{ClassesResult, classesRule}
 use Rattle.figures.specs.Rows.{rowFigures, classesFigures}
 use Rattle.capi.specs.Calls.{Called, forC}

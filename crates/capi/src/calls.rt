@@ -10,7 +10,7 @@ ghost use mathlib.Core.Path.{_≡_};
 ghost use lib.ListN.{length};
 ghost use Rattle.elements.specs.Find.{foundOf};
 ghost use Rattle.fits.specs.Estimate.{strongEstimate};
-ghost use Rattle.cancel.specs.Fit.{fitsGiven};
+ghost use Rattle.strong.specs.Fit.{fitsGiven};
 ghost use Rattle.capi.specs.Calls.{findCalled, findCall, fitCalled, fitCall, estimateCalled, estimateCall};
 
 #[no_mangle]

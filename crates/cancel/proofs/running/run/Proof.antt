@@ -8,7 +8,7 @@ use borrow.Author.Needs.{needs}
 use Rattle.questions.specs.Questions.{firstNo}
 use Rattle.cancel.specs.Running.{runQuestions, runRule}
 use Rattle.questions.proofs.Accepted.{refuses, accepts}
-use Rattle.cancel.proofs.EstimateAccepted.{estimate-accepted}
+use Rattle.strong.proofs.EstimateAccepted.{estimate-accepted}
 use Rattle.cancel.proofs.RunAccepted.{run-result}
 use Rattle.cancel.proofs.running.run.Statement.{statement}
 use Rattle.cancel.proofs.running.run.Tie as tie

@@ -1,6 +1,6 @@
 -- `capi::calls::cancel_estimate_strong` meets its contract. Assumes nothing.
 use borrow.Author.Needs.{needs}
-use Rattle.cancel.proofs.EstimateAccepted.{estimate-refused, estimate-done}
+use Rattle.strong.proofs.EstimateAccepted.{estimate-refused, estimate-done}
 use Rattle.capi.specs.Calls.{estimateCall, estimateTold}
 use Rattle.capi.proofs.Ways.{refused-call, done-call, estimate-told}
 use Rattle.capi.proofs.calls.cancel_estimate_strong.Statement.{statement}

@@ -1,6 +1,6 @@
 -- `capi::calls::cancel_find_elements` meets its contract. Assumes nothing.
 use borrow.Author.Needs.{needs}
-use Rattle.cancel.proofs.FindAccepted.{find-refused, find-done}
+use Rattle.strong.proofs.FindAccepted.{find-refused, find-done}
 use Rattle.capi.specs.Calls.{findCall, findTold}
 use Rattle.capi.proofs.Ways.{refused-call, done-call, find-told}
 use Rattle.capi.proofs.calls.cancel_find_elements.Statement.{statement}

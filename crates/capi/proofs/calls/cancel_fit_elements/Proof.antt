@@ -1,6 +1,6 @@
 -- `capi::calls::cancel_fit_elements` meets its contract. Assumes nothing.
 use borrow.Author.Needs.{needs}
-use Rattle.cancel.proofs.FitAccepted.{fit-refused, fit-done}
+use Rattle.strong.proofs.FitAccepted.{fit-refused, fit-done}
 use Rattle.capi.specs.Calls.{fitCall, fitTold}
 use Rattle.capi.proofs.Ways.{refused-call, done-call, fit-told}
 use Rattle.capi.proofs.calls.cancel_fit_elements.Statement.{statement}

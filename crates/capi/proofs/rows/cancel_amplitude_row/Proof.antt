@@ -1,6 +1,6 @@
 -- `capi::rows::cancel_amplitude_row` meets its contract. Assumes nothing.
 use borrow.Author.Needs.{needs}
-use Rattle.cancel.proofs.AmplitudeAccepted.{row-refused, row-counted}
+use Rattle.strong.proofs.AmplitudeAccepted.{row-refused, row-counted}
 use Rattle.capi.specs.Rows.{rowCall, rowTold}
 use Rattle.capi.proofs.Ways.{refused-call, done-call, numbers-told}
 use Rattle.capi.proofs.rows.cancel_amplitude_row.Statement.{statement}

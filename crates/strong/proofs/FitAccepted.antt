@@ -1,0 +1,74 @@
+-- `fit_elements`: what it goes on with where every answer is yes, and what its promise says. Assumes nothing.
+use Prim.Native.Nat.{ℕ, _*_, _≤_}
+use mathlib.Core.Path.{_≡_, refl, ap}
+use mathlib.Core.Bool.{true, false}
+use mathlib.Core.List.{List, List·Memᴰ}
+use lib.ListN.{length}
+use lib.Ieee.{Float}
+use Rattle.row.specs.Window.{Rate, stepBlocks}
+use Rattle.row.specs.Samples.{Iq}
+use Rattle.row.proofs.Steps.{rate-is}
+use Rattle.elements.specs.Element.{ELEMENT, Handed, handed}
+use Rattle.fits.specs.declared.fit.ElementFit.{ElementFit}
+use Rattle.fits.specs.List.{FIT}
+use Rattle.fits.specs.Inner.{AllTimed}
+use Rattle.strong.specs.declared.fit.FitAnswer.{FitAnswer}
+use Rattle.strong.specs.declared.fit.FitAnswer.the-variants.{Refused, Done}
+use Rattle.questions.specs.Answers.{accepted, refused}
+use Rattle.questions.specs.Questions.{firstNo, ask}
+use Rattle.strong.specs.Fit.{fitQuestions, FitResult, fitsGiven, fitRule, fitOutcome}
+use Rattle.questions.proofs.FirstNo.{yes-at, answer}
+use Rattle.questions.proofs.Given.{all-timed, elements-fit}
+use Rattle.questions.proofs.Accepted.{recording-is, fit-places, work-room, refused-by, accepted-by, never-refused, refused-asked}
+
+pub record FitAccepted (iq : List Float) (fs : Float) (elements : List Float) (count fits work : ℕ) : Type 0 where
+  pub iq-ok : Iq iq
+  pub rate-ok : Rate fs
+  pub timed : AllTimed elements count
+  pub given : ELEMENT * count ≤ length elements
+  pub fit-room : FIT * count ≤ fits
+  pub room : 4 * stepBlocks iq fs ≤ work
+
+pub fit-accepted : (iq : List Float) (fs hz : Float) (elements : List Float) (count fits work : ℕ) → firstNo (fitQuestions iq fs hz elements count fits work) ≡ 0
+    → FitAccepted iq fs elements count fits work
+fit-accepted iq fs hz elements count fits work all =
+    let yes = yes-at (fitQuestions iq fs hz elements count fits work) refl all in
+    record {
+      iq-ok = recording-is iq (yes 1) (yes 2);
+      rate-ok = rate-is fs (yes 0);
+      timed = all-timed elements count (yes 6);
+      given = elements-fit elements count (yes 6);
+      fit-room = fit-places count fits (yes 4);
+      room = work-room (stepBlocks iq fs) work (yes 5);
+    }
+
+-- a result is the same as another if its parts are
+pub fit-result : (m n : ℕ) (h i : Handed ElementFit) (v w : ℕ) → m ≡ n → h ≡ i → v ≡ w
+    → _≡_ {A = FitResult} (record { fitted = m; fits = h; work = v }) (record { fitted = n; fits = i; work = w })
+fit-result m n h i v w a b c = rw (a, b, c)
+
+-- ---- what its promise says of a refusal, and of an accepted call
+
+module _ (iq : List Float) (fs hz : Float) (elements : List Float) (count : ℕ) (fits work : List Float) where
+  pub fit-refused : (n : ℕ) (lent : List (List Float)) → refused n lent ≡ fitRule iq fs hz elements count fits work → n ≡ 0 → ⊥
+  unfolding fitRule
+  fit-refused n lent e = refused-by _ _ _ n lent e
+
+  pub fit-done : (r : FitResult) → accepted r ≡ fitRule iq fs hz elements count fits work
+      → (firstNo (fitQuestions iq fs hz elements count (length fits) (length work)) ≡ 0) × (r .fitted ≡ length (fitsGiven iq fs hz elements count))
+      × (r .fits ≡ handed FIT (fitsGiven iq fs hz elements count) fits)
+  unfolding fitRule
+  fit-done r e =
+      let told = accepted-by _ _ _ r e in
+      (told .0, ap (λ (r : FitResult). r .fitted) (told .1), ap (λ (r : FitResult). r .fits) (told .1))
+
+  -- its number is that of a question it asks, answered no
+  pub fit-number : (n : ℕ) (lent : List (List Float)) → refused n lent ≡ fitRule iq fs hz elements count fits work → List·Memᴰ (ask n false) (fitQuestions iq fs hz elements count (length fits) (length work))
+  unfolding fitRule
+  fit-number n lent e = refused-asked (fitQuestions iq fs hz elements count (length fits) (length work)) _ _ n lent e
+
+  -- What 01 accepts is never refused: with a yes to each question the answer is Done, with the result of 01.
+  pub fit-accepts : ((k : ℕ) → answer (fitQuestions iq fs hz elements count (length fits) (length work)) k ≡ true) → (a : FitAnswer) (fits-after work-after : List Float) → fitOutcome a fits-after work-after ≡ fitRule iq fs hz elements count fits work → a ≡ Done (length (fitsGiven iq fs hz elements count))
+  unfolding fitRule
+  fit-accepts each (Refused n) fits-after work-after e = absurd (never-refused (fitQuestions iq fs hz elements count (length fits) (length work)) _ _ n _ e each)
+  fit-accepts each (Done m) fits-after work-after e = ap Done (fit-done _ e .1)
