@@ -1,5 +1,5 @@
--- `run`: what its promise says. What it goes on with where every answer is yes is what `estimate_strong` does, which asks
--- the same. Assumes nothing.
+-- `run`: what its promise says. What it goes on with where every answer is yes is what `estimate_strong` goes on with,
+-- which asks the same. Assumes nothing.
 use Prim.Native.Nat.{ℕ, zero, suc, _/_, _≤_}
 use native.Mathlib.Omega.{arith}
 use mathlib.Core.Path.{_≡_, refl, ap, _∙_}

@@ -47,8 +47,8 @@ placesOk need places = leb need places
 unfoldable pub workOk : ℕ → ℕ → Bool
 workOk b len = leb (4 * b) len
 
--- B = floor(n/step), of a recording that is lent as so many numbers, two a sample, for whoever has to lend enough; 0 where
--- question 1 refuses fs
+-- B = floor(n/step), of a recording that is lent as so many numbers, two a sample, for whoever has to lend enough; 0
+-- where question 1 refuses fs
 unfoldable pub blocksFor : ℕ → Float → ℕ
 blocksFor len fs = cond (rateOk fs) (len / 2 / stepOf fs) 0
 
