@@ -13,8 +13,8 @@ ghost use mathlib.Core.Bool.{true};
 ghost use Prim.Native.Nat.{_*_, _≤_, min};
 ghost use lib.ListN.{length};
 ghost use Rattle.row.specs.Window.{Rate, windowOf};
-ghost use Rattle.elements.specs.Element.{elementsIn};
-ghost use Rattle.fits.specs.List.{fitsIn};
+ghost use Rattle.elements.specs.Element.{ELEMENT, elementsIn};
+ghost use Rattle.fits.specs.List.{FIT, fitsIn};
 ghost use Rattle.classes.specs.declared.class.BlockClass.the-variants.{Edge, Interior, Other};
 ghost use Rattle.classes.specs.Class.{codeOf, codesOf};
 ghost use Rattle.classes.specs.Classify.{timesOf, blocksOf, firstFrom, pastLast, inRange, inside, atEdge, onRim, inTurn, classOf, countIn, countsIn};
@@ -149,7 +149,7 @@ fn label_fit(fs: f64, len: usize, e: KeyedElement, class: &mut [f64])
 fn label_elements(fs: f64, len: usize, elements: &[f64], count: usize, class: &mut [f64])
     requires { ⌜ Rate fs ⌝ }
     requires { ⌜ len ≡ windowOf fs ⌝ }
-    requires { ⌜ 4 * count ≤ length (now elements) ⌝ }
+    requires { ⌜ ELEMENT * count ≤ length (now elements) ⌝ }
     ensures { λ _. ⌜ now (class .exit) ≡ inTurn (elementLabelled fs) (elementsIn (now (elements .entry)) count) (now (class .entry)) ⌝ }
 {
     for k in 0..count {
@@ -162,7 +162,7 @@ fn label_elements(fs: f64, len: usize, elements: &[f64], count: usize, class: &m
 fn label_fitted(fs: f64, len: usize, fits: &[f64], count: usize, class: &mut [f64])
     requires { ⌜ Rate fs ⌝ }
     requires { ⌜ len ≡ windowOf fs ⌝ }
-    requires { ⌜ 8 * count ≤ length (now fits) ⌝ }
+    requires { ⌜ FIT * count ≤ length (now fits) ⌝ }
     ensures { λ _. ⌜ now (class .exit) ≡ inTurn (λ f. elementLabelled fs (f .element)) (fitsIn (now (fits .entry)) count) (now (class .entry)) ⌝ }
 {
     for k in 0..count {
@@ -175,7 +175,7 @@ fn label_fitted(fs: f64, len: usize, fits: &[f64], count: usize, class: &mut [f6
 fn label_fits(fs: f64, len: usize, fits: &[f64], count: usize, class: &mut [f64])
     requires { ⌜ Rate fs ⌝ }
     requires { ⌜ len ≡ windowOf fs ⌝ }
-    requires { ⌜ 8 * count ≤ length (now fits) ⌝ }
+    requires { ⌜ FIT * count ≤ length (now fits) ⌝ }
     requires { ⌜ length (now class) ≤ 131072 ⌝ }
     ensures { λ _. ⌜ now (class .exit) ≡ inTurn (λ f. fitLabelled fs (f .element)) (fitsIn (now (fits .entry)) count) (now (class .entry)) ⌝ }
 {
@@ -218,8 +218,8 @@ pub fn classify_blocks(
 )
     requires { ⌜ Rate fs ⌝ }
     requires { ⌜ n ≤ 1048576 ⌝ }
-    requires { ⌜ 4 * «element_count» ≤ length (now elements) ⌝ }
-    requires { ⌜ 8 * «fit_count» ≤ length (now fits) ⌝ }
+    requires { ⌜ ELEMENT * «element_count» ≤ length (now elements) ⌝ }
+    requires { ⌜ FIT * «fit_count» ≤ length (now fits) ⌝ }
     requires { ⌜ length (now class) ≡ blocksOf fs n ⌝ }
     ensures { λ _. ⌜ now (class .exit)
         ≡ codesOf (classOf fs n (fitsIn (now (fits .entry)) «fit_count») (elementsIn (now (elements .entry)) «element_count»)) (blocksOf fs n) ⌝ }

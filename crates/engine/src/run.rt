@@ -77,7 +77,7 @@ fn subtract_where(
     sine: &[f64; 1025],
 )
     requires { ⌜ length (now buf) ≤ 2097152 ⌝ }
-    requires { ⌜ 8 * count ≤ length (now fits) ⌝ }
+    requires { ⌜ FIT * count ≤ length (now fits) ⌝ }
     requires { ⌜ now sine ≡ quarterSines ⌝ }
     ensures { λ _. ⌜ now (buf .exit)
         ≡ cond taken (subtracted fs (carrier ⊘ fs) (now (buf .entry)) (fitsIn (now (fits .entry)) count)) (now (buf .entry)) ⌝ }

@@ -12,8 +12,8 @@ ghost use lib.ListN.{length};
 ghost use Rattle.trig.specs.Circle.{quarterSines};
 ghost use Rattle.row.specs.Samples.{Iq};
 ghost use Rattle.row.specs.Window.{Rate, stepBlocks};
-ghost use Rattle.elements.specs.Element.{elementsIn};
-ghost use Rattle.fits.specs.List.{fitsIn};
+ghost use Rattle.elements.specs.Element.{ELEMENT, elementsIn};
+ghost use Rattle.fits.specs.List.{FIT, fitsIn};
 ghost use Rattle.measure.specs.Both.{measuresOf};
 
 // The blocks, how many have each class, and both measures.
@@ -40,8 +40,8 @@ pub fn measure_both(
     requires { ⌜ Iq (now iq) ⌝ }
     requires { ⌜ Rate fs ⌝ }
     requires { ⌜ now sine ≡ quarterSines ⌝ }
-    requires { ⌜ 4 * «element_count» ≤ length (now elements) ⌝ }
-    requires { ⌜ 8 * «fit_count» ≤ length (now fits) ⌝ }
+    requires { ⌜ ELEMENT * «element_count» ≤ length (now elements) ⌝ }
+    requires { ⌜ FIT * «fit_count» ≤ length (now fits) ⌝ }
     requires { ⌜ 4 * stepBlocks (now iq) fs ≤ length (now work) ⌝ }
     ensures { λ r. ⌜ r ≡ measuresOf (now (iq .entry)) fs carrier (fitsIn (now (fits .entry)) «fit_count») (elementsIn (now (elements .entry)) «element_count») ⌝ }
 {

@@ -15,8 +15,8 @@ ghost use Rattle.trig.specs.Circle.{quarterSines};
 ghost use Rattle.complex.specs.Rows.{zAt};
 ghost use Rattle.row.specs.Samples.{Iq};
 ghost use Rattle.row.specs.Window.{Rate, windowOf, blocks, stepBlocks};
-ghost use Rattle.elements.specs.Element.{elementsIn};
-ghost use Rattle.fits.specs.List.{fitsIn};
+ghost use Rattle.elements.specs.Element.{ELEMENT, elementsIn};
+ghost use Rattle.fits.specs.List.{FIT, fitsIn};
 ghost use Rattle.classes.specs.declared.class.BlockClass.the-variants.{Gap, Interior};
 ghost use Rattle.prepared.specs.Inner.{classIn};
 ghost use Rattle.gaps.specs.Reference.{meanAt};
@@ -117,8 +117,8 @@ pub fn second_carrier_evidence(
     requires { ⌜ Iq (now iq) ⌝ }
     requires { ⌜ Rate fs ⌝ }
     requires { ⌜ now sine ≡ quarterSines ⌝ }
-    requires { ⌜ 4 * «element_count» ≤ length (now elements) ⌝ }
-    requires { ⌜ 8 * «fit_count» ≤ length (now fits) ⌝ }
+    requires { ⌜ ELEMENT * «element_count» ≤ length (now elements) ⌝ }
+    requires { ⌜ FIT * «fit_count» ≤ length (now fits) ⌝ }
     requires { ⌜ 4 * stepBlocks (now iq) fs ≤ length (now work) ⌝ }
     ensures { λ r. ⌜ r ≡ evidenceCheckOf (now (iq .entry)) fs carrier (fitsIn (now (fits .entry)) «fit_count») (elementsIn (now (elements .entry)) «element_count») ⌝ }
 {

@@ -15,8 +15,8 @@ ghost use lib.ListN.{length, take};
 ghost use Rattle.trig.specs.Circle.{quarterSines};
 ghost use Rattle.row.specs.Samples.{Iq};
 ghost use Rattle.row.specs.Window.{Rate, windowOf, stepBlocks};
-ghost use Rattle.elements.specs.Element.{elementsIn};
-ghost use Rattle.fits.specs.List.{fitsIn};
+ghost use Rattle.elements.specs.Element.{ELEMENT, elementsIn};
+ghost use Rattle.fits.specs.List.{FIT, fitsIn};
 ghost use Rattle.measure.specs.Residual.{ratioDb, floored, residualCheckOf, cleanOf};
 ghost use Rattle.measure.specs.Inner.{figuresFrom, residualIn};
 
@@ -97,7 +97,7 @@ pub fn residual(
     requires { ⌜ Rate fs ⌝ }
     requires { ⌜ nb * windowOf fs ≤ 1048576 ⌝ }
     requires { ⌜ 7 * nb ≤ length (now work) ⌝ }
-    requires { ⌜ 8 * count ≤ length (now fits) ⌝ }
+    requires { ⌜ FIT * count ≤ length (now fits) ⌝ }
     ensures { λ r. ⌜ (r ≡ residualIn (now (work .entry)) nb fs (fitsIn (now (fits .entry)) count))
         × (take (3 * nb) (now (work .exit)) ≡ take (3 * nb) (now (work .entry))) ⌝ }
 {
@@ -126,8 +126,8 @@ pub fn residual_check(
     requires { ⌜ Iq (now iq) ⌝ }
     requires { ⌜ Rate fs ⌝ }
     requires { ⌜ now sine ≡ quarterSines ⌝ }
-    requires { ⌜ 4 * «element_count» ≤ length (now elements) ⌝ }
-    requires { ⌜ 8 * «fit_count» ≤ length (now fits) ⌝ }
+    requires { ⌜ ELEMENT * «element_count» ≤ length (now elements) ⌝ }
+    requires { ⌜ FIT * «fit_count» ≤ length (now fits) ⌝ }
     requires { ⌜ 4 * stepBlocks (now iq) fs ≤ length (now work) ⌝ }
     ensures { λ r. ⌜ r ≡ residualCheckOf (now (iq .entry)) fs carrier (fitsIn (now (fits .entry)) «fit_count») (elementsIn (now (elements .entry)) «element_count») ⌝ }
 {

@@ -14,7 +14,7 @@ ghost use lib.Ieee.{nan};
 ghost use Rattle.lists.specs.Fill.{fill};
 ghost use Rattle.trig.specs.Circle.{quarterSines};
 ghost use Rattle.complex.specs.Rows.{zAt};
-ghost use Rattle.fits.specs.List.{fitsIn};
+ghost use Rattle.fits.specs.List.{FIT, fitsIn};
 ghost use Rattle.prepared.specs.Left.{takenFrom, lessSpan, lessFit, lessFits};
 ghost use Rattle.prepared.specs.Inner.{Lessened};
 
@@ -106,7 +106,7 @@ fn less_fits(
     requires { ⌜ 0 < len ⌝ }
     requires { ⌜ nb * len ≤ 1048576 ⌝ }
     requires { ⌜ length (now row) ≡ 2 * nb ⌝ }
-    requires { ⌜ 8 * count ≤ length (now fits) ⌝ }
+    requires { ⌜ FIT * count ≤ length (now fits) ⌝ }
     ensures { λ _. ⌜ ((b : ℕ) → b < nb → zAt (now (row .exit)) b ≡ lessFits fs len nb (fitsIn (now (fits .entry)) count) b (zAt (now (row .entry)) b)) ⌝ }
 {
     for k in 0..count {
@@ -140,7 +140,7 @@ pub fn lessen(
     requires { ⌜ 0 < len ⌝ }
     requires { ⌜ nb * len ≤ 1048576 ⌝ }
     requires { ⌜ 6 * nb ≤ length (now work) ⌝ }
-    requires { ⌜ 8 * count ≤ length (now fits) ⌝ }
+    requires { ⌜ FIT * count ≤ length (now fits) ⌝ }
     ensures { λ _. ⌜ Lessened (now (work .entry)) (now (work .exit)) (λ b. lessFits fs len nb (fitsIn (now (fits .entry)) count) b (zAt (now (work .entry)) b)) nb ⌝ }
 {
     copy_means(work, nb);

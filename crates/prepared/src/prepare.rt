@@ -8,8 +8,8 @@ ghost use Rattle.trig.specs.Circle.{quarterSines};
 ghost use Rattle.row.specs.Samples.{Iq};
 ghost use Rattle.row.specs.Window.{Rate, windowOf, samples, blocks, stepBlocks};
 ghost use Rattle.row.specs.Blocks.{blockMean};
-ghost use Rattle.elements.specs.Element.{elementsIn};
-ghost use Rattle.fits.specs.List.{fitsIn};
+ghost use Rattle.elements.specs.Element.{ELEMENT, elementsIn};
+ghost use Rattle.fits.specs.List.{FIT, fitsIn};
 ghost use Rattle.classes.specs.Classify.{classOf};
 ghost use Rattle.prepared.specs.Inner.{Prepared};
 
@@ -28,8 +28,8 @@ pub fn prepare(
     requires { ⌜ Iq (now iq) ⌝ }
     requires { ⌜ Rate fs ⌝ }
     requires { ⌜ now sine ≡ quarterSines ⌝ }
-    requires { ⌜ 4 * «element_count» ≤ length (now elements) ⌝ }
-    requires { ⌜ 8 * «fit_count» ≤ length (now fits) ⌝ }
+    requires { ⌜ ELEMENT * «element_count» ≤ length (now elements) ⌝ }
+    requires { ⌜ FIT * «fit_count» ≤ length (now fits) ⌝ }
     requires { ⌜ 4 * stepBlocks (now iq) fs ≤ length (now work) ⌝ }
     ensures { λ r. ⌜ (r ≡ blocks (now (iq .entry)) (windowOf fs))
         × Prepared (now (work .exit)) (blockMean (now (iq .entry)) (carrier ⊘ fs) (windowOf fs))
