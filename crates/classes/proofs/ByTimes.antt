@@ -2,7 +2,7 @@
 use Prim.Native.Nat.{ℕ, zero, suc, _<_}
 use native.Mathlib.Omega.{arith}
 use mathlib.Core.Path.{_≡_, refl}
-use mathlib.Core.List.{List, [], _∷_, _++_, map, map-append}
+use mathlib.Core.List.{List, [], _∷_, map, map-append}
 use lib.Ieee.{Float}
 use Rattle.lists.specs.Firsts.{firsts}
 use Rattle.elements.specs.declared.element.KeyedElement.{KeyedElement}

@@ -4,7 +4,7 @@ use mathlib.Core.Path.{_≡_, refl, sym, ap, _∙_}
 use mathlib.Core.Bool.{true, cond}
 use borrow.Author.Tests.{eqb-true}
 use lib.Dec.{eqb}
-use lib.Ieee.{Float, eq, ofInt}
+use lib.Ieee.{eq, ofInt}
 use Rattle.classes.specs.declared.class.BlockClass.{BlockClass}
 use Rattle.classes.specs.declared.class.BlockClass.the-variants.{Edge, Interior, Gap, Other}
 use Rattle.classes.specs.Class.{numberOf, codeOf, isClass}

@@ -12,7 +12,6 @@ use Rattle.lists.specs.Count.{countTo}
 use Rattle.lists.proofs.Count.{count-cong, count-most}
 use Rattle.classes.specs.declared.class.BlockClass.{BlockClass}
 use Rattle.classes.specs.declared.class.BlockClass.the-variants.{Edge, Interior, Gap, Other}
-use Rattle.classes.specs.declared.classify.ClassCounts.{ClassCounts}
 use Rattle.classes.specs.Class.{codeOf, codesOf, isClass}
 use Rattle.classes.specs.Classify.{countsOf, countIn, countsIn}
 use Rattle.classes.proofs.Codes.{code-tells}

@@ -2,7 +2,7 @@
 -- Literals of the code are bit patterns here, as the code's own are.
 use Prim.Native.Nat.{ℕ}
 use mathlib.Core.Path.{_≡_, refl, _∙_}
-use mathlib.Core.Bool.{Bool, true, false, _&&_, and-false, and-assoc, or-true}
+use mathlib.Core.Bool.{true, false, _&&_, and-false, and-assoc, or-true}
 use mathlib.Core.List.{List}
 use lib.Ieee.{Float, lt, ofBits, ofInt}
 use Rattle.float.specs.Ops.{_⊕_, _⊖_, _⊗_, bits, of, two}

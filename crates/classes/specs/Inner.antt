@@ -8,10 +8,9 @@ use lib.ListN.{length, getD}
 use lib.Ieee.{Float, nan, lt}
 use Rattle.lists.specs.Firsts.{firsts}
 use Rattle.elements.specs.declared.element.KeyedElement.{KeyedElement}
-use Rattle.fits.specs.declared.fit.ElementFit.{ElementFit}
 use Rattle.classes.specs.declared.class.BlockClass.the-variants.{Edge, Interior, Other}
 use Rattle.classes.specs.Class.{codeOf}
-use Rattle.classes.specs.Classify.{Times, timesOf, timesOfFit, blockCentre, inRange, near, inside, atEdge}
+use Rattle.classes.specs.Classify.{timesOf, blockCentre, inRange, near, inside, atEdge}
 
 -- a list with x at each place that passes a test
 unfoldable pub labelled : List Float → (ℕ → Bool) → Float → List Float

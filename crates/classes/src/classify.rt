@@ -63,7 +63,8 @@ fn label_all(x: f64, class: &mut [f64])
     }
 }
 
-// Rust: `range` and the loop over it. Only its end can lie past the blocks: from a start past them it is empty.
+// Rust: `range` and the loop over it. Its start and its end can lie past the blocks: the end is cut to them, and from a
+// start that is not before the end there is nothing to label.
 fn label_range(len: usize, lo: f64, hi: f64, x: f64, class: &mut [f64])
     requires { ⌜ len ≤ 512 ⌝ }
     ensures { λ _. ⌜ now (class .exit) ≡ labelled (now (class .entry)) (inRange len lo hi) x ⌝ }
@@ -75,7 +76,7 @@ fn label_range(len: usize, lo: f64, hi: f64, x: f64, class: &mut [f64])
     }
 }
 
-// Rust: the loop over the blocks of an interior. The half of the window is computed once.
+// Rust: the loop over the blocks of an interior.
 fn label_amid(len: usize, lo: f64, hi: f64, x: f64, class: &mut [f64])
     requires { ⌜ len ≤ 512 ⌝ }
     requires { ⌜ length (now class) ≤ 131072 ⌝ }

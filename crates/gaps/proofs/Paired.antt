@@ -1,9 +1,8 @@
 -- Gap blocks above a level, and pairs of them: the ways out of each test, and the loops over the blocks.
 use Prim.Native.Nat.{ℕ, zero, suc, _+_, _-_, _≤_, _<_}
-use native.Mathlib.Numerals.{add-one}
 use native.Mathlib.Omega.{arith}
-use mathlib.Core.Path.{_≡_, refl, sym, ap, _∙_}
-use mathlib.Core.Bool.{Bool, true, false, _&&_, _||_, false≢true, and-false}
+use mathlib.Core.Path.{_≡_, refl, sym, _∙_}
+use mathlib.Core.Bool.{Bool, true, false, false≢true}
 use mathlib.Core.List.{List, [], _∷_, _++_}
 use lib.Ieee.{Float, lt}
 use borrow.Author.Tests.{lt-ltb, le-ltb}
@@ -14,7 +13,7 @@ use Rattle.lists.specs.Count.{countTo}
 use Rattle.lists.specs.Those.{picked}
 use Rattle.lists.specs.Sums.{sumOver}
 use Rattle.lists.proofs.Count.{count-most}
-use Rattle.lists.proofs.Every.{and-left, and-right}
+use Rattle.lists.proofs.Every.{and-left}
 use Rattle.lists.proofs.Sums.{over-more}
 use Rattle.complex.specs.declared.value.Complex.{Complex}
 use Rattle.complex.specs.Value.{cZero, cAdd, cNorm, cNormSqr}
@@ -51,24 +50,24 @@ module _ (s : ℕ → Bool) where
   preceded-there zero e = absurd (false≢true e)
   preceded-there (suc a) e = omega arith
 
-  module _ (nb b : ℕ) where
-    pub followed-some : (t : Bool) → b + 1 < nb → t ≡ s (b + 1) → t ≡ followed s nb b
+  module _ (blocks b : ℕ) where
+    pub followed-some : (t : Bool) → b + 1 < blocks → t ≡ s (b + 1) → t ≡ followed s blocks b
     unfolding followed
-    followed-some t h e = rw (lt-ltb (b + 1) nb h) e
+    followed-some t h e = rw (lt-ltb (b + 1) blocks h) e
 
-    pub followed-none : nb ≤ b + 1 → false ≡ followed s nb b
+    pub followed-none : blocks ≤ b + 1 → false ≡ followed s blocks b
     unfolding followed
-    followed-none h = rw (le-ltb (b + 1) nb h)
+    followed-none h = rw (le-ltb (b + 1) blocks h)
 
-    pub in-no : (t : Bool) → t ≡ s b → t ≡ false → false ≡ inPair s nb b
+    pub in-no : (t : Bool) → t ≡ s b → t ≡ false → false ≡ inPair s blocks b
     unfolding inPair
     in-no t e h = rw (← e, h)
 
-    pub in-first : (t u : Bool) → t ≡ s b → t ≡ true → u ≡ preceded s b → u ≡ true → true ≡ inPair s nb b
+    pub in-first : (t u : Bool) → t ≡ s b → t ≡ true → u ≡ preceded s b → u ≡ true → true ≡ inPair s blocks b
     unfolding inPair
     in-first t u e h f g = rw (← e, h, ← f, g)
 
-    pub in-second : (t u v : Bool) → t ≡ s b → t ≡ true → u ≡ preceded s b → u ≡ false → v ≡ followed s nb b → v ≡ inPair s nb b
+    pub in-second : (t u v : Bool) → t ≡ s b → t ≡ true → u ≡ preceded s b → u ≡ false → v ≡ followed s blocks b → v ≡ inPair s blocks b
     unfolding inPair
     in-second t u v e h f g i = rw (← e, h, ← f, g, ← i)
 

@@ -4,7 +4,7 @@
 use Prim.Native.Nat.{ℕ, zero, suc, _+_, _-_, _≤_, _<_}
 use native.Mathlib.Numerals.{add-one}
 use native.Mathlib.Omega.{arith}
-use mathlib.Core.Path.{_≡_, refl, sym, ap, _∙_}
+use mathlib.Core.Path.{_≡_, refl, ap, _∙_}
 use mathlib.Core.Bool.{Bool, true, false, _&&_, _||_, cond, and-false}
 use mathlib.Core.List.{List, [], _∷_, _++_, map, map-append, append-nil, append-assoc}
 use borrow.Author.Tests.{eq-eqb, ne-eqb, lt-ltb, le-ltb}
@@ -80,7 +80,7 @@ module _ (gap loud : ℕ → Bool) where
       go true i = rw (ended-last (gapIdx gap k) k (suc k), eq-eqb (suc k) (k + 1) (omega arith), e, back)
       go false i = rw (append-nil (gapIdx gap k)) (far k (suc k) (omega arith))
 
-  pub windows-are : (nb : ℕ) → passing gap loud nb ≡ picked (pairAt strong) (λ b. window (b - 1) b) nb
+  pub windows-are : (blocks : ℕ) → passing gap loud blocks ≡ picked (pairAt strong) (λ b. window (b - 1) b) blocks
   unfolding picked windows those pairAt
   windows-are zero = refl
   windows-are (suc n) = go (gap n) refl (windows-are n)
@@ -147,7 +147,7 @@ module _ (s : ℕ → Bool) where
       rw (pushed-turn [] (ends (suc k)) (s k && s (suc k)) (window (suc k - 1) (suc k)), i, in-last k, back, same, in-next k, in-last (suc k))
       (turn (picked (inPair s (suc k)) (λ b. b) k) k (s k) (s (suc k)) (preceded s k) (last-far (inPair s (suc k)) k k (omega arith)))
 
-  pub pushed-are : (nb : ℕ) → pushed [] (picked (pairAt s) (λ b. window (b - 1) b) nb) ≡ pairBlocks s nb
+  pub pushed-are : (blocks : ℕ) → pushed [] (picked (pairAt s) (λ b. window (b - 1) b) blocks) ≡ pairBlocks s blocks
   unfolding ends picked pushed pairAt preceded inPair followed
   pushed-are zero = refl
   pushed-are (suc zero) = rw (in-last 0, and-false (s 0))
@@ -164,14 +164,14 @@ map-picked f p g (suc n) = map-append f (picked p g n) (cond (p n) (g n ∷ []) 
     go true = refl
     go false = refl
 
-module _ (gap : ℕ → Bool) (z : ℕ → Complex) (level : Float) (nb : ℕ) where
+module _ (gap : ℕ → Bool) (z : ℕ → Complex) (level : Float) (blocks : ℕ) where
   -- `p` of each window that passes
-  pub rust-products : map (λ w. cMul (z (w .b)) (cConj (z (w .a)))) (passing gap (λ b. lt level (blockPower z b)) nb) ≡ products (above gap z level) z nb
+  pub rust-products : map (λ w. cMul (z (w .b)) (cConj (z (w .a)))) (passing gap (λ b. lt level (blockPower z b)) blocks) ≡ products (above gap z level) z blocks
   unfolding above
   rust-products =
-      ap (map _) (windows-are gap (λ b. lt level (blockPower z b)) nb) ∙ map-picked _ (pairAt (above gap z level)) (λ b. window (b - 1) b) nb
+      ap (map _) (windows-are gap (λ b. lt level (blockPower z b)) blocks) ∙ map-picked _ (pairAt (above gap z level)) (λ b. window (b - 1) b) blocks
 
   -- `pair_blocks`
-  pub rust-blocks : pushed [] (passing gap (λ b. lt level (blockPower z b)) nb) ≡ pairBlocks (above gap z level) nb
+  pub rust-blocks : pushed [] (passing gap (λ b. lt level (blockPower z b)) blocks) ≡ pairBlocks (above gap z level) blocks
   unfolding above
-  rust-blocks = ap (pushed []) (windows-are gap (λ b. lt level (blockPower z b)) nb) ∙ pushed-are (above gap z level) nb
+  rust-blocks = ap (pushed []) (windows-are gap (λ b. lt level (blockPower z b)) blocks) ∙ pushed-are (above gap z level) blocks

@@ -16,13 +16,10 @@ use Rattle.lists.proofs.Count.{count-most}
 use Rattle.lists.proofs.Those.{picked-cong}
 use Rattle.constants.proofs.Bits.{reference-offset-bits, min-positive-bits}
 use Rattle.complex.specs.declared.value.Complex.{Complex}
-use Rattle.complex.specs.Value.{cNormSqr}
 use Rattle.complex.specs.Rows.{zAt}
 use Rattle.row.specs.Window.{windowOf}
 use Rattle.row.specs.Blocks.{blockMean}
-use Rattle.classes.specs.declared.class.BlockClass.{BlockClass}
 use Rattle.classes.specs.declared.class.BlockClass.the-variants.{Gap, Interior}
-use Rattle.classes.specs.Class.{codeOf}
 use Rattle.rank.specs.declared.Percentile.{Percentile}
 use Rattle.rank.specs.declared.Percentile.the-variants.{Value, Nothing}
 use Rattle.rank.specs.Select.{percentileOf}
@@ -85,48 +82,48 @@ part-same v w a n same h e =
     let g : i < n = omega arith in
     getD-take n (drop a v) i nan g ∙ getD-drop a v i nan ∙ e (a + i) (omega arith) ∙ sym (getD-drop a w i nan) ∙ sym (getD-take n (drop a w) i nan g))
 
-module _ (w u v : List Float) (codes : ℕ) (code : Float) (f g : ℕ → Float) (out nb n m : ℕ)
-    (first : (n ≡ countTo (hasCode w codes code) nb) × (u ≡ keep w out (hasCode w codes code) f nb))
-    (second : (m ≡ countTo (hasCode u codes code) nb) × (v ≡ keep u (out + n) (hasCode u codes code) g nb))
-    (h : codes + nb ≤ out) (room : out + nb + nb ≤ length w) where
+module _ (w u v : List Float) (codes : ℕ) (code : Float) (f g : ℕ → Float) (out blocks n m : ℕ)
+    (first : (n ≡ countTo (hasCode w codes code) blocks) × (u ≡ keep w out (hasCode w codes code) f blocks))
+    (second : (m ≡ countTo (hasCode u codes code) blocks) × (v ≡ keep u (out + n) (hasCode u codes code) g blocks))
+    (h : codes + blocks ≤ out) (room : out + blocks + blocks ≤ length w) where
   -- the numbers of the classes are as they were for the second row
   first-below : (k : ℕ) → k < out → getD u k nan ≡ getD w k nan
-  first-below k l = rw (first .1) (getD-keep-below w out (hasCode w codes code) f nb k nan l)
+  first-below k l = rw (first .1) (getD-keep-below w out (hasCode w codes code) f blocks k nan l)
 
-  same-code : (b : ℕ) → b < nb → hasCode u codes code b ≡ hasCode w codes code b
+  same-code : (b : ℕ) → b < blocks → hasCode u codes code b ≡ hasCode w codes code b
   same-code b l = ap (λ x. eq x code) (first-below (codes + b) (omega arith))
 
-  few-first : n ≤ nb
-  few-first = rw (first .0) (count-most (hasCode w codes code) nb)
+  few-first : n ≤ blocks
+  few-first = rw (first .0) (count-most (hasCode w codes code) blocks)
 
   length-first : length u ≡ length w
-  length-first = rw (first .1) (length-keep w out (hasCode w codes code) f nb)
+  length-first = rw (first .1) (length-keep w out (hasCode w codes code) f blocks)
 
   length-second : length v ≡ length u
-  length-second = rw (second .1) (length-keep u (out + n) (hasCode u codes code) g nb)
+  length-second = rw (second .1) (length-keep u (out + n) (hasCode u codes code) g blocks)
 
   second-below : (k : ℕ) → k < out + n → getD v k nan ≡ getD u k nan
-  second-below k l = rw (second .1) (getD-keep-below u (out + n) (hasCode u codes code) g nb k nan l)
+  second-below k l = rw (second .1) (getD-keep-below u (out + n) (hasCode u codes code) g blocks k nan l)
 
   pub both-below : take out v ≡ take out w
   both-below =
       take-same v w out (length-second ∙ length-first) (omega arith) (λ k l. second-below k (omega arith) ∙ first-below k l)
 
-  first-part : take n (drop out v) ≡ picked (hasCode w codes code) f nb
+  first-part : take n (drop out v) ≡ picked (hasCode w codes code) f blocks
   first-part =
       let few = few-first in
       let same = length-first in
       part-same v u out n length-second (omega arith) second-below
-      ∙ rw (first .0, first .1) (keep-part w out (hasCode w codes code) f nb nan (omega arith))
+      ∙ rw (first .0, first .1) (keep-part w out (hasCode w codes code) f blocks nan (omega arith))
 
-  second-part : take m (drop (out + n) v) ≡ picked (hasCode w codes code) g nb
+  second-part : take m (drop (out + n) v) ≡ picked (hasCode w codes code) g blocks
   second-part =
       let few = few-first in
       let same = length-first in
-      rw (second .0, second .1) (keep-part u (out + n) (hasCode u codes code) g nb nan (omega arith))
-      ∙ picked-cong (hasCode u codes code) (hasCode w codes code) g g nb same-code (λ b l t. refl)
+      rw (second .0, second .1) (keep-part u (out + n) (hasCode u codes code) g blocks nan (omega arith))
+      ∙ picked-cong (hasCode u codes code) (hasCode w codes code) g g blocks same-code (λ b l t. refl)
 
-  pub both-held : take (out + n + m - out) (drop out v) ≡ picked (hasCode w codes code) f nb ++ picked (hasCode w codes code) g nb
+  pub both-held : take (out + n + m - out) (drop out v) ≡ picked (hasCode w codes code) f blocks ++ picked (hasCode w codes code) g blocks
   both-held =
       let all : out + n + m - out ≡ n + m = omega arith in
       rw (all, take-add n m (drop out v), drop-drop n out v, first-part, second-part)
@@ -134,12 +131,12 @@ module _ (w u v : List Float) (codes : ℕ) (code : Float) (f g : ℕ → Float)
 -- ---- the levels are those of the rows
 
 -- the powers to both sides of the carrier
-pub side-is : (iq : List Float) (fs carrier : Float) (len : ℕ) (gap : ℕ → Bool) (nb : ℕ) (l : List Float) (p : Percentile) (r : Float)
+pub side-is : (iq : List Float) (fs carrier : Float) (len : ℕ) (gap : ℕ → Bool) (blocks : ℕ) (l : List Float) (p : Percentile) (r : Float)
     → p ≡ percentileOf l half → r ≡ orZero p
-    → l ≡ picked gap (blockPower (blockMean iq ((carrier ⊕ neg (bits 0x407f_4000_0000_0000)) ⊘ fs) len)) nb
-    ++ picked gap (blockPower (blockMean iq ((carrier ⊕ bits 0x407f_4000_0000_0000) ⊘ fs) len)) nb
-    → len ≡ windowOf fs → r ≡ medianOf (sideOf (meanAt iq fs) carrier gap nb)
-side-is iq fs carrier len gap nb l p r e o h w = rw (o, e, h, w, reference-offset-bits)
+    → l ≡ picked gap (blockPower (blockMean iq ((carrier ⊕ neg (bits 0x407f_4000_0000_0000)) ⊘ fs) len)) blocks
+    ++ picked gap (blockPower (blockMean iq ((carrier ⊕ bits 0x407f_4000_0000_0000) ⊘ fs) len)) blocks
+    → len ≡ windowOf fs → r ≡ medianOf (sideOf (meanAt iq fs) carrier gap blocks)
+side-is iq fs carrier len gap blocks l p r e o h w = rw (o, e, h, w, reference-offset-bits)
 
 -- 1e-12
 floor-bits : fraction 1 (10 ^ 12) ≡ bits 0x3d71_9799_812d_ea11
@@ -147,17 +144,17 @@ unfolding fraction round ofBits
 floor-bits = refl
 
 -- the median of the interior blocks was taken in the slice v, after the side's; the slice was w before both
-pub reference-is : (mean : Float → ℕ → Complex) (carrier : Float) (w v : List Float) (nb : ℕ) (p : Percentile) (side inner first r : Float)
-    → take (3 * nb) v ≡ take (3 * nb) w
-    → side ≡ medianOf (sideOf mean carrier (classIn w (2 * nb) Gap) nb)
-    → p ≡ percentileOf (powersIn v 0 (2 * nb) nb Interior) half → inner ≡ orZero p
+pub reference-is : (mean : Float → ℕ → Complex) (carrier : Float) (w v : List Float) (blocks : ℕ) (p : Percentile) (side inner first r : Float)
+    → take (3 * blocks) v ≡ take (3 * blocks) w
+    → side ≡ medianOf (sideOf mean carrier (classIn w (2 * blocks) Gap) blocks)
+    → p ≡ percentileOf (powersIn v 0 (2 * blocks) blocks Interior) half → inner ≡ orZero p
     → first ≡ maxOf side (bits 0x3d71_9799_812d_ea11 ⊗ inner) → r ≡ maxOf first (bits 0x0010_0000_0000_0000)
-    → r ≡ referenceBy mean carrier (classIn w (2 * nb) Gap) (classIn w (2 * nb) Interior) (zAt w) nb
+    → r ≡ referenceBy mean carrier (classIn w (2 * blocks) Gap) (classIn w (2 * blocks) Interior) (zAt w) blocks
 unfolding referenceBy referenceFrom
-reference-is mean carrier w v nb p side inner first r a s q o e h =
-    rw (h, e, s, o, q, powers-same v w 0 (2 * nb) nb Interior (3 * nb) a (omega arith) (omega arith), from-zero, floor-bits, min-positive-bits)
+reference-is mean carrier w v blocks p side inner first r a s q o e h =
+    rw (h, e, s, o, q, powers-same v w 0 (2 * blocks) blocks Interior (3 * blocks) a (omega arith) (omega arith), from-zero, floor-bits, min-positive-bits)
   where
-    from-zero : powersIn w 0 (2 * nb) nb Interior ≡ picked (classIn w (2 * nb) Interior) (blockPower (zAt w)) nb
+    from-zero : powersIn w 0 (2 * blocks) blocks Interior ≡ picked (classIn w (2 * blocks) Interior) (blockPower (zAt w)) blocks
     from-zero =
-        picked-cong (classIn w (2 * nb) Interior) (classIn w (2 * nb) Interior) (powerIn w 0) (blockPower (zAt w)) nb (λ b l. refl)
+        picked-cong (classIn w (2 * blocks) Interior) (classIn w (2 * blocks) Interior) (powerIn w 0) (blockPower (zAt w)) blocks (λ b l. refl)
         (λ b l t. let here : 0 + b ≡ b = omega arith in rw here)

@@ -32,8 +32,8 @@ strong gap z ref = above gap z (PAIR_FACTOR ⊗ ref)
 
 -- Blocks b and b + 1 are consecutive gap blocks, both above PAIR_FACTOR × reference, as a property: `absent-exactly` of
 -- crate measure says that the offset is absent exactly when no block b has it.
-pub record IsPair (gap : ℕ → Bool) (z : ℕ → Complex) (ref : Float) (nb b : ℕ) : Type 0 where
-  pub inside : b + 1 < nb
+pub record IsPair (gap : ℕ → Bool) (z : ℕ → Complex) (ref : Float) (blocks b : ℕ) : Type 0 where
+  pub inside : b + 1 < blocks
   pub first-gap : gap b ≡ true
   pub second-gap : gap (b + 1) ≡ true
   pub first-above : lt (PAIR_FACTOR ⊗ ref) (blockPower z b) ≡ true
@@ -41,7 +41,7 @@ pub record IsPair (gap : ℕ → Bool) (z : ℕ → Complex) (ref : Float) (nb b
 
 -- how many gap blocks there are, and how many of them are hot
 unfoldable pub gapsOf : (ℕ → Bool) → (ℕ → Complex) → Float → ℕ → Gaps
-gapsOf gap z ref nb = record { blocks = countTo gap nb; hot = countTo (hot gap z ref) nb }
+gapsOf gap z ref blocks = record { blocks = countTo gap blocks; hot = countTo (hot gap z ref) blocks }
 
 -- ---- pairs, of a test `s` that tells the strong gap blocks
 
@@ -50,9 +50,9 @@ unfoldable pub preceded : (ℕ → Bool) → ℕ → Bool
 preceded s zero = false
 preceded s (suc a) = s a
 
--- the block after block b of nb passes
+-- the block after block b passes; there is none after the last
 unfoldable pub followed : (ℕ → Bool) → ℕ → ℕ → Bool
-followed s nb b = ltb (b + 1) nb && s (b + 1)
+followed s blocks b = ltb (b + 1) blocks && s (b + 1)
 
 -- a pair ends at block b: b − 1 and b are consecutive gap blocks, both strong
 unfoldable pub pairAt : (ℕ → Bool) → ℕ → Bool
@@ -64,7 +64,7 @@ lagged z b = cMul (z b) (cConj (z (b - 1)))
 
 -- the products of all pairs, in order
 abbrev pub products : (ℕ → Bool) → (ℕ → Complex) → ℕ → List Complex
-products s z nb = picked (pairAt s) (lagged z) nb
+products s z blocks = picked (pairAt s) (lagged z) blocks
 
 -- `acc`: complex numbers added up from the left, to a start
 unfoldable pub cOver : Complex → List Complex → Complex
@@ -73,13 +73,13 @@ cOver start (x ∷ xs) = cOver (cAdd start x) xs
 
 -- how many pairs there are, the sum `acc` of their products, and `mag`, that of the products' sizes
 unfoldable pub pairsOf : (ℕ → Bool) → (ℕ → Complex) → ℕ → Pairs
-pairsOf s z nb =
-    record { count = countTo (pairAt s) nb; sum = cOver cZero (products s z nb); size = sumOver cNorm float.plus-zero (products s z nb) }
+pairsOf s z blocks =
+    record { count = countTo (pairAt s) blocks; sum = cOver cZero (products s z blocks); size = sumOver cNorm float.plus-zero (products s z blocks) }
 
 -- block b is in a pair: it is strong, and so is a neighbour
 unfoldable pub inPair : (ℕ → Bool) → ℕ → ℕ → Bool
-inPair s nb b = s b && (preceded s b || followed s nb b)
+inPair s blocks b = s b && (preceded s b || followed s blocks b)
 
 -- `pair_blocks`: the blocks that are in a pair, each once, in order
 abbrev pub pairBlocks : (ℕ → Bool) → ℕ → List ℕ
-pairBlocks s nb = picked (inPair s nb) (λ b. b) nb
+pairBlocks s blocks = picked (inPair s blocks) (λ b. b) blocks

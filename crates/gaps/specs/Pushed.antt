@@ -15,7 +15,7 @@ window x y = record { a = x; b = y }
 
 -- `gap_idx`
 abbrev pub gapIdx : (ℕ → Bool) → ℕ → List ℕ
-gapIdx gap nb = picked gap (λ k. k) nb
+gapIdx gap blocks = picked gap (λ k. k) blocks
 
 -- `.windows(2)`
 unfoldable pub windows : List ℕ → List Window
@@ -29,7 +29,7 @@ passes loud w = eqb (w .b) (w .a + 1) && loud (w .a) && loud (w .b)
 
 -- the windows that pass
 abbrev pub passing : (ℕ → Bool) → (ℕ → Bool) → ℕ → List Window
-passing gap loud nb = those (passes loud) (windows (gapIdx gap nb))
+passing gap loud blocks = those (passes loud) (windows (gapIdx gap blocks))
 
 -- `pair_blocks.last() == Some(&a)`
 unfoldable pub lastIs : ℕ → List ℕ → Bool

@@ -32,17 +32,17 @@ medianOf l = orZero (percentileOf l half)
 
 -- the powers of the gap blocks at a carrier
 abbrev pub gapPowers : (Float → ℕ → Complex) → (ℕ → Bool) → ℕ → Float → List Float
-gapPowers mean gap nb c = picked gap (blockPower (mean c)) nb
+gapPowers mean gap blocks c = picked gap (blockPower (mean c)) blocks
 
 -- `side`: those at the carrier − REFERENCE_OFFSET_HZ, and then those at the carrier + REFERENCE_OFFSET_HZ
 abbrev pub sideOf : (Float → ℕ → Complex) → Float → (ℕ → Bool) → ℕ → List Float
-sideOf mean carrier gap nb =
-    gapPowers mean gap nb (carrier ⊕ neg REFERENCE_OFFSET_HZ) ++ gapPowers mean gap nb (carrier ⊕ REFERENCE_OFFSET_HZ)
+sideOf mean carrier gap blocks =
+    gapPowers mean gap blocks (carrier ⊕ neg REFERENCE_OFFSET_HZ) ++ gapPowers mean gap blocks (carrier ⊕ REFERENCE_OFFSET_HZ)
 
 -- `reference`, of the powers `side` and `interior`: never below the smallest normal f64
 unfoldable pub referenceFrom : List Float → List Float → Float
 referenceFrom side interior = maxOf (maxOf (medianOf side) (fraction 1 (10 ^ 12) ⊗ medianOf interior)) MIN_POSITIVE
 
--- of nb blocks with the means z at the carrier, where `gap` and `interior` tell the blocks of these classes
+-- of so many blocks with the means z at the carrier, where `gap` and `interior` tell the blocks of these classes
 unfoldable pub referenceBy : (Float → ℕ → Complex) → Float → (ℕ → Bool) → (ℕ → Bool) → (ℕ → Complex) → ℕ → Float
-referenceBy mean carrier gap interior z nb = referenceFrom (sideOf mean carrier gap nb) (picked interior (blockPower z) nb)
+referenceBy mean carrier gap interior z blocks = referenceFrom (sideOf mean carrier gap blocks) (picked interior (blockPower z) blocks)

@@ -1,5 +1,5 @@
-// Hot gap blocks, and pairs of consecutive gap blocks, against a reference. The work slice of nb blocks holds their
-// means as complex numbers and then the numbers of their classes.
+// Hot gap blocks, and pairs of consecutive gap blocks, against a reference. The work slice holds the blocks' means as
+// complex numbers and then the numbers of their classes.
 use classes::BlockClass;
 use classes::is_class;
 use complex::Complex;
@@ -10,9 +10,6 @@ ghost use mathlib.Core.Path.{_≡_};
 ghost use Prim.Native.Nat.{_+_, _*_, _≤_, _<_};
 ghost use lib.ListN.{length};
 ghost use Rattle.complex.specs.Rows.{zAt};
-ghost use Rattle.complex.specs.Value.{cAdd, cNorm};
-ghost use Rattle.float.specs.Ops.{_⊕_, _⊗_};
-ghost use Rattle.constants.specs.Constants.{PAIR_FACTOR};
 ghost use Rattle.classes.specs.declared.class.BlockClass.the-variants.{Gap};
 ghost use Rattle.prepared.specs.Inner.{classIn};
 ghost use Rattle.gaps.specs.Inner.{pairPlus};
@@ -52,12 +49,12 @@ impl Pairs {
 }
 
 // Whether block b is a gap block whose power is above a level.
-fn above(work: &[f64], nb: usize, level: f64, b: usize) -> bool
-    requires { ⌜ b < nb ⌝ }
-    requires { ⌜ 3 * nb ≤ length (now work) ⌝ }
-    ensures { λ r. ⌜ r ≡ above (classIn (now (work .entry)) (2 * nb) Gap) (zAt (now (work .entry))) level b ⌝ }
+fn above(work: &[f64], blocks: usize, level: f64, b: usize) -> bool
+    requires { ⌜ b < blocks ⌝ }
+    requires { ⌜ 3 * blocks ≤ length (now work) ⌝ }
+    ensures { λ r. ⌜ r ≡ above (classIn (now (work .entry)) (2 * blocks) Gap) (zAt (now (work .entry))) level b ⌝ }
 {
-    if is_class(work, 2 * nb + b, BlockClass::Gap) {
+    if is_class(work, 2 * blocks + b, BlockClass::Gap) {
         get(work, b).norm_sqr() > level
     } else {
         false
@@ -65,52 +62,52 @@ fn above(work: &[f64], nb: usize, level: f64, b: usize) -> bool
 }
 
 // The same of the block before block b ..
-fn preceded(work: &[f64], nb: usize, level: f64, b: usize) -> bool
-    requires { ⌜ b < nb ⌝ }
-    requires { ⌜ 3 * nb ≤ length (now work) ⌝ }
-    ensures { λ r. ⌜ r ≡ preceded (above (classIn (now (work .entry)) (2 * nb) Gap) (zAt (now (work .entry))) level) b ⌝ }
+fn preceded(work: &[f64], blocks: usize, level: f64, b: usize) -> bool
+    requires { ⌜ b < blocks ⌝ }
+    requires { ⌜ 3 * blocks ≤ length (now work) ⌝ }
+    ensures { λ r. ⌜ r ≡ preceded (above (classIn (now (work .entry)) (2 * blocks) Gap) (zAt (now (work .entry))) level) b ⌝ }
 {
     if b == 0 {
         return false;
     }
-    above(work, nb, level, b - 1)
+    above(work, blocks, level, b - 1)
 }
 
 // .. and of the one after it.
-fn followed(work: &[f64], nb: usize, level: f64, b: usize) -> bool
-    requires { ⌜ b < nb ⌝ }
-    requires { ⌜ 3 * nb ≤ length (now work) ⌝ }
-    ensures { λ r. ⌜ r ≡ followed (above (classIn (now (work .entry)) (2 * nb) Gap) (zAt (now (work .entry))) level) nb b ⌝ }
+fn followed(work: &[f64], blocks: usize, level: f64, b: usize) -> bool
+    requires { ⌜ b < blocks ⌝ }
+    requires { ⌜ 3 * blocks ≤ length (now work) ⌝ }
+    ensures { λ r. ⌜ r ≡ followed (above (classIn (now (work .entry)) (2 * blocks) Gap) (zAt (now (work .entry))) level) blocks b ⌝ }
 {
-    if b + 1 < nb {
-        return above(work, nb, level, b + 1);
+    if b + 1 < blocks {
+        return above(work, blocks, level, b + 1);
     }
     false
 }
 
 // Whether a pair ends at block b. Rust: the test of the loop over `gap_idx.windows(2)`.
-fn pair_at(work: &[f64], nb: usize, level: f64, b: usize) -> bool
-    requires { ⌜ b < nb ⌝ }
-    requires { ⌜ 3 * nb ≤ length (now work) ⌝ }
-    ensures { λ r. ⌜ r ≡ pairAt (above (classIn (now (work .entry)) (2 * nb) Gap) (zAt (now (work .entry))) level) b ⌝ }
+fn pair_at(work: &[f64], blocks: usize, level: f64, b: usize) -> bool
+    requires { ⌜ b < blocks ⌝ }
+    requires { ⌜ 3 * blocks ≤ length (now work) ⌝ }
+    ensures { λ r. ⌜ r ≡ pairAt (above (classIn (now (work .entry)) (2 * blocks) Gap) (zAt (now (work .entry))) level) b ⌝ }
 {
-    if preceded(work, nb, level, b) {
-        return above(work, nb, level, b);
+    if preceded(work, blocks, level, b) {
+        return above(work, blocks, level, b);
     }
     false
 }
 
 // Whether block b is in a pair. Rust: what goes into `pair_blocks`.
-pub fn in_pair(work: &[f64], nb: usize, level: f64, b: usize) -> bool
-    requires { ⌜ b < nb ⌝ }
-    requires { ⌜ 3 * nb ≤ length (now work) ⌝ }
-    ensures { λ r. ⌜ r ≡ inPair (above (classIn (now (work .entry)) (2 * nb) Gap) (zAt (now (work .entry))) level) nb b ⌝ }
+pub fn in_pair(work: &[f64], blocks: usize, level: f64, b: usize) -> bool
+    requires { ⌜ b < blocks ⌝ }
+    requires { ⌜ 3 * blocks ≤ length (now work) ⌝ }
+    ensures { λ r. ⌜ r ≡ inPair (above (classIn (now (work .entry)) (2 * blocks) Gap) (zAt (now (work .entry))) level) blocks b ⌝ }
 {
-    if above(work, nb, level, b) {
-        if preceded(work, nb, level, b) {
+    if above(work, blocks, level, b) {
+        if preceded(work, blocks, level, b) {
             return true;
         }
-        return followed(work, nb, level, b);
+        return followed(work, blocks, level, b);
     }
     false
 }
@@ -125,34 +122,34 @@ fn lagged(work: &[f64], b: usize) -> Complex
 }
 
 // Rust: `gap_idx.len()` and `hot`.
-pub fn count_gaps(work: &[f64], nb: usize, reference: f64) -> Gaps
-    requires { ⌜ 3 * nb ≤ length (now work) ⌝ }
-    ensures { λ r. ⌜ r ≡ gapsOf (classIn (now (work .entry)) (2 * nb) Gap) (zAt (now (work .entry))) reference nb ⌝ }
+pub fn count_gaps(work: &[f64], blocks: usize, reference: f64) -> Gaps
+    requires { ⌜ 3 * blocks ≤ length (now work) ⌝ }
+    ensures { λ r. ⌜ r ≡ gapsOf (classIn (now (work .entry)) (2 * blocks) Gap) (zAt (now (work .entry))) reference blocks ⌝ }
 {
     let level = HOT_FACTOR * reference;
-    let mut blocks: usize = 0;
+    let mut gap: usize = 0;
     let mut hot: usize = 0;
-    for b in 0..nb {
-        if is_class(work, 2 * nb + b, BlockClass::Gap) {
-            blocks = blocks + 1;
+    for b in 0..blocks {
+        if is_class(work, 2 * blocks + b, BlockClass::Gap) {
+            gap = gap + 1;
         }
-        if above(work, nb, level, b) {
+        if above(work, blocks, level, b) {
             hot = hot + 1;
         }
     }
-    Gaps { blocks, hot }
+    Gaps { blocks: gap, hot }
 }
 
 // Rust: the loop over `gap_idx.windows(2)`.
-pub fn sum_pairs(work: &[f64], nb: usize, reference: f64) -> Pairs
-    requires { ⌜ nb ≤ 1048576 ⌝ }
-    requires { ⌜ 3 * nb ≤ length (now work) ⌝ }
-    ensures { λ r. ⌜ r ≡ pairsOf (strong (classIn (now (work .entry)) (2 * nb) Gap) (zAt (now (work .entry))) reference) (zAt (now (work .entry))) nb ⌝ }
+pub fn sum_pairs(work: &[f64], blocks: usize, reference: f64) -> Pairs
+    requires { ⌜ blocks ≤ 1048576 ⌝ }
+    requires { ⌜ 3 * blocks ≤ length (now work) ⌝ }
+    ensures { λ r. ⌜ r ≡ pairsOf (strong (classIn (now (work .entry)) (2 * blocks) Gap) (zAt (now (work .entry))) reference) (zAt (now (work .entry))) blocks ⌝ }
 {
     let level = PAIR_FACTOR * reference;
     let mut found = Pairs::NO_PAIRS;
-    for b in 0..nb {
-        if pair_at(work, nb, level, b) {
+    for b in 0..blocks {
+        if pair_at(work, blocks, level, b) {
             let p = lagged(work, b);
             found = found.with(p);
         }

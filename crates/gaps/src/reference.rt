@@ -14,7 +14,8 @@ ghost use Rattle.lists.specs.Count.{countTo};
 ghost use Rattle.lists.specs.Those.{keep};
 ghost use Rattle.trig.specs.Circle.{quarterSines};
 ghost use Rattle.row.specs.Samples.{Iq};
-ghost use Rattle.row.specs.Window.{windowOf, blocks};
+ghost use Rattle.row.specs.Window.{windowOf};
+ghost use Rattle.row.specs.Window as Window;
 ghost use Rattle.row.specs.Blocks.{blockMean};
 ghost use Rattle.classes.specs.declared.class.BlockClass.the-variants.{Gap, Interior};
 ghost use Rattle.complex.specs.Rows.{zAt};
@@ -39,21 +40,21 @@ fn gap_powers(
     cyc: f64,
     len: usize,
     work: &mut [f64],
-    nb: usize,
+    blocks: usize,
     out: usize,
     sine: &[f64; 1025],
 ) -> usize
     requires { ⌜ Iq (now iq) ⌝ }
     requires { ⌜ now sine ≡ quarterSines ⌝ }
-    requires { ⌜ nb ≡ blocks (now iq) len ⌝ }
-    requires { ⌜ 3 * nb ≤ out ⌝ }
-    requires { ⌜ out + nb ≤ length (now work) ⌝ }
-    ensures { λ r. ⌜ (r ≡ countTo (classIn (now (work .entry)) (2 * nb) Gap) nb)
-        × (now (work .exit) ≡ keep (now (work .entry)) out (classIn (now (work .entry)) (2 * nb) Gap) (blockPower (blockMean (now (iq .entry)) cyc len)) nb) ⌝ }
+    requires { ⌜ blocks ≡ Window.blocks (now iq) len ⌝ }
+    requires { ⌜ 3 * blocks ≤ out ⌝ }
+    requires { ⌜ out + blocks ≤ length (now work) ⌝ }
+    ensures { λ r. ⌜ (r ≡ countTo (classIn (now (work .entry)) (2 * blocks) Gap) blocks)
+        × (now (work .exit) ≡ keep (now (work .entry)) out (classIn (now (work .entry)) (2 * blocks) Gap) (blockPower (blockMean (now (iq .entry)) cyc len)) blocks) ⌝ }
 {
     let mut n: usize = 0;
-    for b in 0..nb {
-        if is_class(work, 2 * nb + b, BlockClass::Gap) {
+    for b in 0..blocks {
+        if is_class(work, 2 * blocks + b, BlockClass::Gap) {
             work[out + n] = block_mean(iq, cyc, len, b, sine).norm_sqr();
             n = n + 1;
         }
@@ -68,22 +69,22 @@ fn side_level(
     carrier: f64,
     len: usize,
     work: &mut [f64],
-    nb: usize,
+    blocks: usize,
     sine: &[f64; 1025],
 ) -> f64
     requires { ⌜ Iq (now iq) ⌝ }
     requires { ⌜ now sine ≡ quarterSines ⌝ }
     requires { ⌜ len ≡ windowOf fs ⌝ }
-    requires { ⌜ nb ≡ blocks (now iq) len ⌝ }
-    requires { ⌜ 5 * nb ≤ length (now work) ⌝ }
-    ensures { λ r. ⌜ r ≡ medianOf (sideOf (meanAt (now (iq .entry)) fs) carrier (classIn (now (work .entry)) (2 * nb) Gap) nb) ⌝ }
-    ensures { λ _. ⌜ take (3 * nb) (now (work .exit)) ≡ take (3 * nb) (now (work .entry)) ⌝ }
+    requires { ⌜ blocks ≡ Window.blocks (now iq) len ⌝ }
+    requires { ⌜ 5 * blocks ≤ length (now work) ⌝ }
+    ensures { λ r. ⌜ r ≡ medianOf (sideOf (meanAt (now (iq .entry)) fs) carrier (classIn (now (work .entry)) (2 * blocks) Gap) blocks) ⌝ }
+    ensures { λ _. ⌜ take (3 * blocks) (now (work .exit)) ≡ take (3 * blocks) (now (work .entry)) ⌝ }
 {
-    let from = 3 * nb;
+    let from = 3 * blocks;
     let under = (carrier + -REFERENCE_OFFSET_HZ) / fs;
     let over = (carrier + REFERENCE_OFFSET_HZ) / fs;
-    let n = gap_powers(iq, under, len, work, nb, from, sine);
-    let m = gap_powers(iq, over, len, work, nb, from + n, sine);
+    let n = gap_powers(iq, under, len, work, blocks, from, sine);
+    let m = gap_powers(iq, over, len, work, blocks, from + n, sine);
     let to = from + n + m;
     or_zero(percentile(&work[from..to], 0.5))
 }
@@ -95,20 +96,28 @@ pub fn find_reference(
     carrier: f64,
     len: usize,
     work: &mut [f64],
-    nb: usize,
+    blocks: usize,
     sine: &[f64; 1025],
 ) -> f64
     requires { ⌜ Iq (now iq) ⌝ }
     requires { ⌜ now sine ≡ quarterSines ⌝ }
     requires { ⌜ len ≡ windowOf fs ⌝ }
-    requires { ⌜ nb ≡ blocks (now iq) len ⌝ }
-    requires { ⌜ 5 * nb ≤ length (now work) ⌝ }
-    ensures { λ r. ⌜ r ≡ referenceBy (meanAt (now (iq .entry)) fs) carrier (classIn (now (work .entry)) (2 * nb) Gap)
-        (classIn (now (work .entry)) (2 * nb) Interior) (zAt (now (work .entry))) nb ⌝ }
-    ensures { λ _. ⌜ take (3 * nb) (now (work .exit)) ≡ take (3 * nb) (now (work .entry)) ⌝ }
+    requires { ⌜ blocks ≡ Window.blocks (now iq) len ⌝ }
+    requires { ⌜ 5 * blocks ≤ length (now work) ⌝ }
+    ensures { λ r. ⌜ r ≡ referenceBy (meanAt (now (iq .entry)) fs) carrier (classIn (now (work .entry)) (2 * blocks) Gap)
+        (classIn (now (work .entry)) (2 * blocks) Interior) (zAt (now (work .entry))) blocks ⌝ }
+    ensures { λ _. ⌜ take (3 * blocks) (now (work .exit)) ≡ take (3 * blocks) (now (work .entry)) ⌝ }
 {
-    let side = side_level(iq, fs, carrier, len, work, nb, sine);
-    let interior = level_of(work, 0, 2 * nb, nb, BlockClass::Interior, 3 * nb, 0.5);
+    let side = side_level(iq, fs, carrier, len, work, blocks, sine);
+    let interior = level_of(
+        work,
+        0,
+        2 * blocks,
+        blocks,
+        BlockClass::Interior,
+        3 * blocks,
+        0.5,
+    );
     let level = interior.value;
     let floor = 1e-12 * or_zero(level);
     float::max(float::max(side, floor), MIN_POSITIVE)

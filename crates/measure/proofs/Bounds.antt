@@ -4,10 +4,9 @@
 -- gain that question 7 lets pass has this size (`gain-sized`), and so has every gain of an estimate of its own
 -- (`found-gain` of fits). Assumes nothing.
 use Prim.Native.Nat.{ℕ, zero, suc, _+_, _-_, _*_, _^_, _≤_, _<_, min, max}
-use native.Mathlib.Nat.{suc-mul}
 use native.Mathlib.Decide.{decLt}
 use native.Mathlib.Omega.{arith}
-use mathlib.Core.Path.{_≡_, refl, sym, subst, _∙_}
+use mathlib.Core.Path.{_≡_, refl, sym, subst}
 use mathlib.Core.Bool.{Bool, true, false, cond}
 use mathlib.Core.List.{List, [], _∷_, _++_, List·Memᴰ, List·Memᴰ·head, List·Memᴰ·tail}
 use lib.Dec.{T, lit≤}
@@ -15,7 +14,7 @@ use lib.ListN.{length, getD, length-append, List·getD-append}
 use lib.Seq.{getD-at}
 use lib.Ieee.Bits.{is-true}
 use lib.Ieee.{Float, nan, inf, fin, le}
-use Rattle.float.specs.Ops.{_⊘_, of, plus-zero}
+use Rattle.float.specs.Ops.{of, plus-zero}
 use Rattle.float.specs.Size.{finiteF, sized}
 use Rattle.float.proofs.Bounds.{beyond-whole, bounded-shift}
 use Rattle.float.proofs.Amounts.{Amount, amount-squares, amount-above}
@@ -77,7 +76,7 @@ gains-of l (suc n) h = gains-end (firsts (fitAt l) n) (fitAt l n) (gains-of l n 
 
 -- ---- what is left of a mean
 
-module _ (fs : Float) (len nb : ℕ) (some : 1 ≤ len) (short : len ≤ 512) where
+module _ (fs : Float) (len blocks : ℕ) (some : 1 ≤ len) (short : len ≤ 512) where
   term-bounded : (f : ElementFit) (k : ℕ) → Gain f → CBounded 458 1 (cDiv (synthAt fs f k) (of len))
   term-bounded f k g =
       cbounded-shift 3 {k = 455} {a = 1} (cbounded-div (synth-bounded fs f k {j = 355} {a = 1} (g .bound) (lit≤ tt) (lit≤ tt)) (beyond-whole len some (omega arith)) (lit≤ tt) (lit≤ tt))
@@ -90,22 +89,22 @@ module _ (fs : Float) (len nb : ℕ) (some : 1 ≤ len) (short : len ≤ 512) wh
       subst (λ m. CBounded 458 m (cSub (takenFrom fs len f z p n) (cDiv (synthAt fs f (p + n)) (of len)))) (sym next)
       (cbounded-sub (taken-bounded f z p n g c (omega arith)) (term-bounded f (p + n) g) (omega arith) (lit≤ tt))
 
-  less-bounded : (f : ElementFit) (b : ℕ) (z : Complex) {a : ℕ} → Gain f → CBounded 458 a z → a + 512 ≤ 2 ^ 53 → CBounded 458 (a + 512) (lessFit fs len nb f b z)
+  less-bounded : (f : ElementFit) (b : ℕ) (z : Complex) {a : ℕ} → Gain f → CBounded 458 a z → a + 512 ≤ 2 ^ 53 → CBounded 458 (a + 512) (lessFit fs len blocks f b z)
   unfolding lessFit
   less-bounded f b z {a} g c h =
-      let s = spanOf fs (nb * len) f in
+      let s = spanOf fs (blocks * len) f in
       let n = min (s .hi) (b * len + len) - max (s .lo) (b * len) in
       let fewer : n ≤ 512 = omega arith in
       cbounded-more (taken-bounded f z (max (s .lo) (b * len)) n g c (omega arith)) (omega arith) (lit≤ tt)
 
   pub left-bounded : (fits : List ElementFit) (b : ℕ) (z : Complex) {a : ℕ} → Gains fits → CBounded 458 a z → a + length fits * 512 ≤ 2 ^ 53
-      → CBounded 458 (a + length fits * 512) (lessFits fs len nb fits b z)
+      → CBounded 458 (a + length fits * 512) (lessFits fs len blocks fits b z)
   unfolding lessFits
   left-bounded [] b z {a} g c h = cbounded-more c (omega arith) (lit≤ tt)
   left-bounded (f ∷ fits) b z {a} (more g r) c h =
       let next : a + suc (length fits) * 512 ≡ a + 512 + length fits * 512 = omega arith in
-      subst (λ m. CBounded 458 m (lessFits fs len nb fits b (lessFit fs len nb f b z))) (sym next)
-      (left-bounded fits b (lessFit fs len nb f b z) r (less-bounded f b z g c (omega arith)) (omega arith))
+      subst (λ m. CBounded 458 m (lessFits fs len blocks fits b (lessFit fs len blocks f b z))) (sym next)
+      (left-bounded fits b (lessFit fs len blocks f b z) r (less-bounded f b z g c (omega arith)) (omega arith))
 
 -- ---- the powers
 

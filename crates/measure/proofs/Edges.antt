@@ -64,12 +64,12 @@ module _ (edge interior gap : List Float) where
   unfolding figuresOf percentileOf floored
   figures-no-gap e = (rw (empty gap e) (over-nothing _), rw (empty gap e) (over-nothing _))
 
-module _ (fs : Float) (z : ℕ → Complex) (class : ℕ → BlockClass) (nb : ℕ) (fits : List ElementFit) where
+module _ (fs : Float) (z : ℕ → Complex) (class : ℕ → BlockClass) (blocks : ℕ) (fits : List ElementFit) where
   abbrev check : ResidualCheck
-  check = residualOf fs z class nb fits
+  check = residualOf fs z class blocks fits
 
   abbrev left : BlockClass → List Float
-  left c = powersOf c class (residualMean fs nb fits z) nb
+  left c = powersOf c class (residualMean fs blocks fits z) blocks
 
   -- Edge blocks empty: ratio +∞, not clean.
   pub no-edge-blocks : check .«edge_blocks» ≡ 0 → (check .«edge_over_neighbour_db» ≡ inf false) × (cleanOf check ≡ false)

@@ -1,15 +1,15 @@
 -- The evidence over a work slice: the reference leaves it as it is read, and in a prepared slice it is that of the
 -- recording (`evidence-prepared`). Assumes nothing.
-use Prim.Native.Nat.{ℕ, _+_, _*_, _<_}
+use Prim.Native.Nat.{ℕ, _+_, _*_}
 use native.Mathlib.Omega.{arith}
 use mathlib.Core.Path.{_≡_, refl, ap, _∙_}
-use mathlib.Core.Bool.{Bool, true}
 use mathlib.Core.List.{List}
-use lib.ListN.{take, getD}
-use lib.Ieee.{Float, nan, eq}
+use lib.ListN.{take}
+use lib.Ieee.{Float, eq}
 use Rattle.complex.specs.declared.value.Complex.{Complex}
 use Rattle.complex.specs.Rows.{zAt}
-use Rattle.row.specs.Window.{stepOf, windowOf, blocks}
+use Rattle.row.specs.Window.{stepOf, windowOf}
+use Rattle.row.specs.Window as window
 use Rattle.classes.specs.declared.class.BlockClass.{BlockClass}
 use Rattle.classes.specs.declared.class.BlockClass.the-variants.{Gap, Interior}
 use Rattle.classes.specs.Class.{codeOf}
@@ -25,36 +25,36 @@ use Rattle.measure.proofs.Same.{with-same, evidence-same}
 pub window-is : (fs : Float) (step : ℕ) → step ≡ stepOf fs → 8 * step ≡ windowOf fs
 window-is fs step e = rw e
 
-pub blocks-are : (iq : List Float) (fs : Float) (step nb : ℕ) → step ≡ stepOf fs → nb ≡ blocks iq (windowOf fs) → nb ≡ blocks iq (8 * step)
-blocks-are iq fs step nb e h = rw e h
+pub blocks-are : (iq : List Float) (fs : Float) (step blocks : ℕ) → step ≡ stepOf fs → blocks ≡ window.blocks iq (windowOf fs) → blocks ≡ window.blocks iq (8 * step)
+blocks-are iq fs step blocks e h = rw e h
 
 -- against the reference, from the slice v that it left of the slice w
-pub evidence-is : (mean : Float → ℕ → Complex) (fs carrier : Float) (w v : List Float) (nb : ℕ) (ref : Float) (r : SecondCarrierEvidence)
-    → take (3 * nb) v ≡ take (3 * nb) w
-    → ref ≡ referenceBy mean carrier (classIn w (2 * nb) Gap) (classIn w (2 * nb) Interior) (zAt w) nb
-    → r ≡ evidenceWith mean fs carrier (classIn v (2 * nb) Gap) (zAt v) nb ref
-    → r ≡ evidenceBy mean fs carrier (classIn w (2 * nb) Gap) (classIn w (2 * nb) Interior) (zAt w) nb
+pub evidence-is : (mean : Float → ℕ → Complex) (fs carrier : Float) (w v : List Float) (blocks : ℕ) (ref : Float) (r : SecondCarrierEvidence)
+    → take (3 * blocks) v ≡ take (3 * blocks) w
+    → ref ≡ referenceBy mean carrier (classIn w (2 * blocks) Gap) (classIn w (2 * blocks) Interior) (zAt w) blocks
+    → r ≡ evidenceWith mean fs carrier (classIn v (2 * blocks) Gap) (zAt v) blocks ref
+    → r ≡ evidenceBy mean fs carrier (classIn w (2 * blocks) Gap) (classIn w (2 * blocks) Interior) (zAt w) blocks
 unfolding evidenceBy
-evidence-is mean fs carrier w v nb ref r a e h =
+evidence-is mean fs carrier w v blocks ref r a e h =
     h
-    ∙ with-same mean mean (classIn v (2 * nb) Gap) (classIn w (2 * nb) Gap) (zAt v) (zAt w) nb
-    (λ b l. ap (λ x. eq x (codeOf Gap)) (take-at v w (3 * nb) a (2 * nb + b) (omega arith)))
-    (λ b l g. zAt-below v w (3 * nb) a b (omega arith)) (λ c b l g. refl) fs carrier ref
-    ∙ ap (evidenceWith mean fs carrier (classIn w (2 * nb) Gap) (zAt w) nb) e
+    ∙ with-same mean mean (classIn v (2 * blocks) Gap) (classIn w (2 * blocks) Gap) (zAt v) (zAt w) blocks
+    (λ b l. ap (λ x. eq x (codeOf Gap)) (take-at v w (3 * blocks) a (2 * blocks + b) (omega arith)))
+    (λ b l g. zAt-below v w (3 * blocks) a b (omega arith)) (λ c b l g. refl) fs carrier ref
+    ∙ ap (evidenceWith mean fs carrier (classIn w (2 * blocks) Gap) (zAt w) blocks) e
 
 -- of a prepared slice
-pub evidence-prepared : (iq : List Float) (fs carrier : Float) (class : ℕ → BlockClass) (nb : ℕ) (w : List Float)
-    → Prepared w (meanAt iq fs carrier) class nb
-    → evidenceBy (meanAt iq fs) fs carrier (classIn w (2 * nb) Gap) (classIn w (2 * nb) Interior) (zAt w) nb ≡ evidenceOf iq fs carrier class nb
+pub evidence-prepared : (iq : List Float) (fs carrier : Float) (class : ℕ → BlockClass) (blocks : ℕ) (w : List Float)
+    → Prepared w (meanAt iq fs carrier) class blocks
+    → evidenceBy (meanAt iq fs) fs carrier (classIn w (2 * blocks) Gap) (classIn w (2 * blocks) Interior) (zAt w) blocks ≡ evidenceOf iq fs carrier class blocks
 unfolding evidenceOf
-evidence-prepared iq fs carrier class nb w p =
-    evidence-same (meanAt iq fs) (meanAt iq fs) (classIn w (2 * nb) Gap) (isIn Gap class) (zAt w) (meanAt iq fs carrier) nb
-    (λ b h. class-prepared w (meanAt iq fs carrier) class nb Gap b p h) (λ b h g. p .mean b h) (λ c b h g. refl)
-    (classIn w (2 * nb) Interior) (isIn Interior class) (λ b h. class-prepared w (meanAt iq fs carrier) class nb Interior b p h)
+evidence-prepared iq fs carrier class blocks w p =
+    evidence-same (meanAt iq fs) (meanAt iq fs) (classIn w (2 * blocks) Gap) (isIn Gap class) (zAt w) (meanAt iq fs carrier) blocks
+    (λ b h. class-prepared w (meanAt iq fs carrier) class blocks Gap b p h) (λ b h g. p .mean b h) (λ c b h g. refl)
+    (classIn w (2 * blocks) Interior) (isIn Interior class) (λ b h. class-prepared w (meanAt iq fs carrier) class blocks Interior b p h)
     (λ b h g. p .mean b h) fs carrier
 
-pub check-is : (iq : List Float) (fs carrier : Float) (class : ℕ → BlockClass) (nb : ℕ) (w : List Float) (r : SecondCarrierEvidence)
-    → nb ≡ blocks iq (windowOf fs) → Prepared w (meanAt iq fs carrier) class (blocks iq (windowOf fs))
-    → r ≡ evidenceBy (meanAt iq fs) fs carrier (classIn w (2 * nb) Gap) (classIn w (2 * nb) Interior) (zAt w) nb
-    → r ≡ evidenceOf iq fs carrier class (blocks iq (windowOf fs))
-check-is iq fs carrier class nb w r n p e = e ∙ rw n (evidence-prepared iq fs carrier class (blocks iq (windowOf fs)) w p)
+pub check-is : (iq : List Float) (fs carrier : Float) (class : ℕ → BlockClass) (blocks : ℕ) (w : List Float) (r : SecondCarrierEvidence)
+    → blocks ≡ window.blocks iq (windowOf fs) → Prepared w (meanAt iq fs carrier) class (window.blocks iq (windowOf fs))
+    → r ≡ evidenceBy (meanAt iq fs) fs carrier (classIn w (2 * blocks) Gap) (classIn w (2 * blocks) Interior) (zAt w) blocks
+    → r ≡ evidenceOf iq fs carrier class (window.blocks iq (windowOf fs))
+check-is iq fs carrier class blocks w r n p e = e ∙ rw n (evidence-prepared iq fs carrier class (window.blocks iq (windowOf fs)) w p)

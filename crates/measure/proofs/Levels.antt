@@ -17,10 +17,9 @@ use Rattle.lists.specs.Those.{picked}
 use Rattle.constants.specs.Constants.{REFERENCE_OFFSET_HZ, MIN_POSITIVE}
 use Rattle.rank.specs.Order.{minusZero, precedes}
 use Rattle.rank.proofs.Sorted.{Every}
-use Rattle.complex.specs.declared.value.Complex.{Complex}
 use Rattle.row.specs.Samples.{Singles, Iq}
-use Rattle.row.specs.Window.{stepOf, windowOf, blocks}
-use Rattle.row.specs.Blocks.{blockMean}
+use Rattle.row.specs.Window.{stepOf, windowOf}
+use Rattle.row.specs.Window as window
 use Rattle.row.proofs.Steps.{step-low}
 use Rattle.row.proofs.Bounds.{block-bounded}
 use Rattle.prepared.specs.Powers.{blockPower}
@@ -44,20 +43,20 @@ every-picked P p f (suc n) h = every-append P (picked p f n) _ (every-picked P p
 -- ---- the powers
 
 module _ (iq : List Float) (fs : Float) (s : Singles iq) (q : Iq iq) where
-  pub power-amount : (c : Float) (b : ℕ) → b < blocks iq (windowOf fs) → Amount (blockPower (meanAt iq fs c) b)
+  pub power-amount : (c : Float) (b : ℕ) → b < window.blocks iq (windowOf fs) → Amount (blockPower (meanAt iq fs c) b)
   power-amount c b h =
       let low : 1 ≤ stepOf fs = step-low fs in
       let z = block-bounded iq (c ⊘ fs) (windowOf fs) b s q (omega arith) h in
       amount-squares (z .re-part) (z .im-part) (lit≤ tt) (lit≤ tt)
 
-  module _ (p : ℕ → Bool) (nb : ℕ) (few : nb ≤ blocks iq (windowOf fs)) where
+  module _ (p : ℕ → Bool) (blocks : ℕ) (few : blocks ≤ window.blocks iq (windowOf fs)) where
     -- those of the blocks that pass a test, as the gap blocks and the interior blocks
-    pub powers-amounts : (c : Float) → Every Amount (picked p (blockPower (meanAt iq fs c)) nb)
-    powers-amounts c = every-picked Amount p (blockPower (meanAt iq fs c)) nb (λ b h. power-amount c b (omega arith))
+    pub powers-amounts : (c : Float) → Every Amount (picked p (blockPower (meanAt iq fs c)) blocks)
+    powers-amounts c = every-picked Amount p (blockPower (meanAt iq fs c)) blocks (λ b h. power-amount c b (omega arith))
 
-    pub side-amounts : (carrier : Float) → Every Amount (sideOf (meanAt iq fs) carrier p nb)
+    pub side-amounts : (carrier : Float) → Every Amount (sideOf (meanAt iq fs) carrier p blocks)
     side-amounts carrier =
-        every-append Amount (picked p (blockPower (meanAt iq fs (carrier ⊕ neg REFERENCE_OFFSET_HZ))) nb) _ (powers-amounts (carrier ⊕ neg REFERENCE_OFFSET_HZ))
+        every-append Amount (picked p (blockPower (meanAt iq fs (carrier ⊕ neg REFERENCE_OFFSET_HZ))) blocks) _ (powers-amounts (carrier ⊕ neg REFERENCE_OFFSET_HZ))
         (powers-amounts (carrier ⊕ REFERENCE_OFFSET_HZ))
 
 -- ---- their order

@@ -3,14 +3,15 @@ use Prim.Native.Nat.{ℕ, _-_, _*_, _≤_}
 use native.Mathlib.Omega.{arith}
 use mathlib.Core.Path.{_≡_, sym, _∙_}
 use mathlib.Core.List.{List}
-use lib.ListN.{length, getD, take, drop, length-drop}
+use lib.ListN.{length, take, drop, length-drop}
 use lib.Seq.{getD-drop}
 use lib.Ieee.{Float, nan}
 use Rattle.float.specs.Ops.{_⊘_}
 use Rattle.lists.proofs.Firsts.{firsts-take}
 use Rattle.complex.specs.declared.value.Complex.{Complex}
 use Rattle.complex.specs.Rows.{zAt}
-use Rattle.row.specs.Window.{windowOf, samples, blocks}
+use Rattle.row.specs.Window.{windowOf, samples}
+use Rattle.row.specs.Window as window
 use Rattle.row.specs.Blocks.{blockMean}
 use Rattle.elements.specs.declared.element.KeyedElement.{KeyedElement}
 use Rattle.fits.specs.declared.fit.ElementFit.{ElementFit}
@@ -34,35 +35,35 @@ use Rattle.measure.proofs.Figures as residuals
 use Rattle.measure.proofs.Evidences as evidences
 
 -- the part of a prepared slice that holds the numbers of the classes
-pub classes-held : (w : List Float) (z : ℕ → Complex) (class : ℕ → BlockClass) (nb : ℕ) → Prepared w z class nb → take nb (drop (2 * nb) w) ≡ codesOf class nb
-classes-held w z class nb p =
-    let room : 32 * nb ≤ length w = p .room in
-    let size : length (drop (2 * nb) w) ≡ length w - 2 * nb = length-drop (2 * nb) w in
-    sym (firsts-take (λ b. codeOf (class b)) (drop (2 * nb) w) nan nb (omega arith)
-    (λ b h. sym (getD-drop (2 * nb) w b nan ∙ p .class b h)))
+pub classes-held : (w : List Float) (z : ℕ → Complex) (class : ℕ → BlockClass) (blocks : ℕ) → Prepared w z class blocks → take blocks (drop (2 * blocks) w) ≡ codesOf class blocks
+classes-held w z class blocks p =
+    let room : 32 * blocks ≤ length w = p .room in
+    let size : length (drop (2 * blocks) w) ≡ length w - 2 * blocks = length-drop (2 * blocks) w in
+    sym (firsts-take (λ b. codeOf (class b)) (drop (2 * blocks) w) nan blocks (omega arith)
+    (λ b h. sym (getD-drop (2 * blocks) w b nan ∙ p .class b h)))
 
-pub classes-counted : (w : List Float) (z : ℕ → Complex) (class : ℕ → BlockClass) (nb n : ℕ) (r : ClassCounts)
-    → nb ≡ n → Prepared w z class n → r ≡ countsIn (take (3 * nb - 2 * nb) (drop (2 * nb) w)) → r ≡ countsOf class n
-classes-counted w z class nb n r e p h =
+pub classes-counted : (w : List Float) (z : ℕ → Complex) (class : ℕ → BlockClass) (blocks n : ℕ) (r : ClassCounts)
+    → blocks ≡ n → Prepared w z class n → r ≡ countsIn (take (3 * blocks - 2 * blocks) (drop (2 * blocks) w)) → r ≡ countsOf class n
+classes-counted w z class blocks n r e p h =
     let size : 3 * n - 2 * n ≡ n = omega arith in
     (rw (e, size) at h) ∙ counts-hold class n _ (classes-held w z class n p)
 
 -- all of them, from the slice w that was prepared and the slice v that the residual check leaves of it
-module _ (iq : List Float) (fs carrier : Float) (fits : List ElementFit) (elements : List KeyedElement) (w v : List Float) (nb : ℕ) where
+module _ (iq : List Float) (fs carrier : Float) (fits : List ElementFit) (elements : List KeyedElement) (w v : List Float) (blocks : ℕ) where
   abbrev class : ℕ → BlockClass
   class = classOf fs (samples iq) fits elements
 
-  pub measures-are : (classes : ClassCounts) (residual : ResidualCheck) (evidence : SecondCarrierEvidence) → nb ≡ blocks iq (windowOf fs)
-      → Prepared w (blockMean iq (carrier ⊘ fs) (windowOf fs)) (classOf fs (samples iq) fits elements) (blocks iq (windowOf fs))
-      → classes ≡ countsIn (take (3 * nb - 2 * nb) (drop (2 * nb) w)) → residual ≡ residualIn w nb fs fits
-      → take (3 * nb) v ≡ take (3 * nb) w → length v ≡ length w
-      → evidence ≡ evidenceBy (meanAt iq fs) fs carrier (classIn v (2 * nb) Gap) (classIn v (2 * nb) Interior) (zAt v) nb
-      → _≡_ {A = Measures} (record { blocks = nb; classes = classes; residual = residual; evidence = evidence }) (measuresOf iq fs carrier fits elements)
+  pub measures-are : (classes : ClassCounts) (residual : ResidualCheck) (evidence : SecondCarrierEvidence) → blocks ≡ window.blocks iq (windowOf fs)
+      → Prepared w (blockMean iq (carrier ⊘ fs) (windowOf fs)) (classOf fs (samples iq) fits elements) (window.blocks iq (windowOf fs))
+      → classes ≡ countsIn (take (3 * blocks - 2 * blocks) (drop (2 * blocks) w)) → residual ≡ residualIn w blocks fs fits
+      → take (3 * blocks) v ≡ take (3 * blocks) w → length v ≡ length w
+      → evidence ≡ evidenceBy (meanAt iq fs) fs carrier (classIn v (2 * blocks) Gap) (classIn v (2 * blocks) Interior) (zAt v) blocks
+      → _≡_ {A = Measures} (record { blocks = blocks; classes = classes; residual = residual; evidence = evidence }) (measuresOf iq fs carrier fits elements)
   unfolding measuresOf
   measures-are classes residual evidence n p c r k l e =
       let z = blockMean iq (carrier ⊘ fs) (windowOf fs) in
-      let still = prepared-kept w v z class (blocks iq (windowOf fs)) p (rw n at k) l in
-      let a : classes ≡ countsOf class (blocks iq (windowOf fs)) = classes-counted w z class nb _ classes n p c in
-      let b : residual ≡ residualCheckOf iq fs carrier fits elements = residuals.check-is w z class nb _ fs fits residual n p r in
-      let d : evidence ≡ evidenceCheckOf iq fs carrier fits elements = evidences.check-is iq fs carrier class nb v evidence n still e in
+      let still = prepared-kept w v z class (window.blocks iq (windowOf fs)) p (rw n at k) l in
+      let a : classes ≡ countsOf class (window.blocks iq (windowOf fs)) = classes-counted w z class blocks _ classes n p c in
+      let b : residual ≡ residualCheckOf iq fs carrier fits elements = residuals.check-is w z class blocks _ fs fits residual n p r in
+      let d : evidence ≡ evidenceCheckOf iq fs carrier fits elements = evidences.check-is iq fs carrier class blocks v evidence n still e in
       rw (n, a, b, d)

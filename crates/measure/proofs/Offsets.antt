@@ -15,7 +15,6 @@ use Rattle.complex.specs.declared.value.Complex.{Complex}
 use Rattle.complex.specs.Value.{cArg}
 use Rattle.row.specs.Window.{windowOf}
 use Rattle.row.specs.Blocks.{blockMean}
-use Rattle.measure.specs.declared.offset.Offset.{Offset}
 use Rattle.measure.specs.declared.offset.Offset.the-variants.{Hz, Absent}
 use Rattle.measure.specs.declared.offset.Candidate.{Candidate}
 use Rattle.gaps.specs.declared.pairs.Pairs.{Pairs}

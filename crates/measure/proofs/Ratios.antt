@@ -1,7 +1,7 @@
 -- The ways out of `ratio_db`, `floored_at` and `clean`, and what the residual check answers where a class has no block.
 use mathlib.Core.Path.{_≡_, refl}
 use mathlib.Core.Bool.{true, false}
-use lib.Ieee.{Float, inf, lt, le, ofBits, ofInt, div}
+use lib.Ieee.{Float, inf, lt, ofBits, ofInt, div}
 use Rattle.float.specs.Ops.{_⊗_, _⊘_, bits, of, plus-zero, one}
 use Rattle.float.specs.Compare.{maxOf}
 use Rattle.logarithm.specs.Logarithm.{log10Of}

@@ -14,7 +14,8 @@ use Rattle.lists.proofs.Those.{picked-cong}
 use Rattle.complex.specs.declared.value.Complex.{Complex}
 use Rattle.complex.specs.Value.{cMul, cConj, cDiv, cNormSqr}
 use Rattle.complex.specs.Rows.{cSum}
-use Rattle.row.specs.Window.{windowOf, samples, blocks}
+use Rattle.row.specs.Window.{windowOf, samples}
+use Rattle.row.specs.Window as window
 use Rattle.row.specs.Blocks.{rotorOf, derot, meanFrom, blockMean}
 use Rattle.elements.specs.declared.element.KeyedElement.{KeyedElement}
 use Rattle.fits.specs.declared.fit.ElementFit.{ElementFit}
@@ -44,19 +45,19 @@ block-agree iq iq' cyc len b h =
 
 -- ---- estimates that are one to the Rust
 
-module _ (fs : Float) (len nb : ℕ) where
+module _ (fs : Float) (len blocks : ℕ) where
   module _ (f g : ElementFit) (same : rustOf f ≡ rustOf g) where
     taken-alike : (z : Complex) (a n : ℕ) → takenFrom fs len f z a n ≡ takenFrom fs len g z a n
     unfolding takenFrom
     taken-alike z a zero = refl
     taken-alike z a (suc n) = rw (taken-alike z a n, synth-alike fs f g same (a + n))
 
-    less-alike : (b : ℕ) (z : Complex) → lessFit fs len nb f b z ≡ lessFit fs len nb g b z
+    less-alike : (b : ℕ) (z : Complex) → lessFit fs len blocks f b z ≡ lessFit fs len blocks g b z
     unfolding lessFit
-    less-alike b z = rw (span-alike fs f g same (nb * len)) (taken-alike z _ _)
+    less-alike b z = rw (span-alike fs f g same (blocks * len)) (taken-alike z _ _)
 
   -- what is left of a mean
-  pub left-alike : (fits others : List ElementFit) (b : ℕ) (z : Complex) → map rustOf fits ≡ map rustOf others → lessFits fs len nb fits b z ≡ lessFits fs len nb others b z
+  pub left-alike : (fits others : List ElementFit) (b : ℕ) (z : Complex) → map rustOf fits ≡ map rustOf others → lessFits fs len blocks fits b z ≡ lessFits fs len blocks others b z
   unfolding lessFits
   left-alike [] [] b z same = refl
   left-alike [] (g ∷ others) b z same = let no : _≡_ {A = ℕ} 0 1 = cc in absurd (omega arith)
@@ -64,7 +65,7 @@ module _ (fs : Float) (len nb : ℕ) where
   left-alike (f ∷ fits) (g ∷ others) b z same =
       let first : rustOf f ≡ rustOf g = cc in
       let rest : map rustOf fits ≡ map rustOf others = cc in
-      ap (lessFits fs len nb fits b) (less-alike f g first b z) ∙ left-alike fits others b (lessFit fs len nb g b z) rest
+      ap (lessFits fs len blocks fits b) (less-alike f g first b z) ∙ left-alike fits others b (lessFit fs len blocks g b z) rest
 
 -- their times
 times-alike : (fits others : List ElementFit) → map rustOf fits ≡ map rustOf others → map timesOfFit fits ≡ map timesOfFit others
@@ -89,7 +90,7 @@ measured c d n e g = false≢true (sym n ∙ ap (isClass c) (sym g) ∙ e)
 
 module _ (iq iq' : List Float) (fs carrier : Float) (fits fits' : List ElementFit) (elements elements' : List KeyedElement)
     (long : length iq ≡ length iq') (fitted : map rustOf fits ≡ map rustOf fits') (found : map timesOf elements ≡ map timesOf elements')
-    (agree : (b : ℕ) → b < blocks iq (windowOf fs) → classOf fs (samples iq) fits elements b ≢ Other → AgreeIn iq iq' (windowOf fs) b) where
+    (agree : (b : ℕ) → b < window.blocks iq (windowOf fs) → classOf fs (samples iq) fits elements b ≢ Other → AgreeIn iq iq' (windowOf fs) b) where
   pub residual-reach : residualCheckOf iq fs carrier fits elements ≡ residualCheckOf iq' fs carrier fits' elements'
   unfolding residualOf
   residual-reach = rw (← long, same Edge refl, same Interior refl, same Gap refl)
@@ -97,8 +98,8 @@ module _ (iq iq' : List Float) (fs carrier : Float) (fits fits' : List ElementFi
       n : ℕ
       n = samples iq
 
-      nb : ℕ
-      nb = blocks iq (windowOf fs)
+      blocks : ℕ
+      blocks = window.blocks iq (windowOf fs)
 
       class : ℕ → BlockClass
       class = classOf fs n fits elements
@@ -115,13 +116,13 @@ module _ (iq iq' : List Float) (fs carrier : Float) (fits fits' : List ElementFi
       alike : (b : ℕ) → class b ≡ class' b
       alike b = class-alike fs n b fits fits' elements elements' fitted found
 
-      means : (b : ℕ) → b < nb → class b ≢ Other → residualMean fs nb fits z b ≡ residualMean fs nb fits' z' b
+      means : (b : ℕ) → b < blocks → class b ≢ Other → residualMean fs blocks fits z b ≡ residualMean fs blocks fits' z' b
       means b h o =
-          ap (lessFits fs (windowOf fs) nb fits b) (block-agree iq iq' (carrier ⊘ fs) (windowOf fs) b (agree b h o))
-          ∙ left-alike fs (windowOf fs) nb fits fits' b (z' b) fitted
+          ap (lessFits fs (windowOf fs) blocks fits b) (block-agree iq iq' (carrier ⊘ fs) (windowOf fs) b (agree b h o))
+          ∙ left-alike fs (windowOf fs) blocks fits fits' b (z' b) fitted
 
-      same : (c : BlockClass) → isClass c Other ≡ false → powersOf c class (residualMean fs nb fits z) nb ≡ powersOf c class' (residualMean fs nb fits' z') nb
+      same : (c : BlockClass) → isClass c Other ≡ false → powersOf c class (residualMean fs blocks fits z) blocks ≡ powersOf c class' (residualMean fs blocks fits' z') blocks
       same c o =
-          picked-cong (λ b. isClass c (class b)) (λ b. isClass c (class' b)) (blockPower (residualMean fs nb fits z)) (blockPower (residualMean fs nb fits' z')) nb
+          picked-cong (λ b. isClass c (class b)) (λ b. isClass c (class' b)) (blockPower (residualMean fs blocks fits z)) (blockPower (residualMean fs blocks fits' z')) blocks
           (λ b h. ap (isClass c) (alike b))
           (λ b h t. ap cNormSqr (means b h (measured c (class b) o (ap (isClass c) (alike b) ∙ t))))

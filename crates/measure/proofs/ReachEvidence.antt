@@ -2,7 +2,7 @@
 -- same evidence, at one rate and carrier and for the same classes (`evidence-reach`); so they have for one estimate in
 -- the Rust's own fields (`evidence-check-reach`). Assumes nothing.
 use Prim.Native.Nat.{ℕ, _<_}
-use mathlib.Core.Path.{_≡_, refl, sym, ap, _∙_}
+use mathlib.Core.Path.{_≡_, refl, ap, _∙_}
 use mathlib.Core.Logic.{_⊎_, inl, inr}
 use mathlib.Core.Bool.{true, false, false≢true}
 use mathlib.Core.List.{List, map}
@@ -35,28 +35,28 @@ interior-is Interior e = refl
 interior-is Gap e = absurd (false≢true e)
 interior-is Other e = absurd (false≢true e)
 
-module _ (iq iq' : List Float) (fs carrier : Float) (class class' : ℕ → BlockClass) (nb : ℕ)
-    (alike : (b : ℕ) → b < nb → class b ≡ class' b)
-    (agree : (b : ℕ) → b < nb → (class b ≡ Gap) ⊎ (class b ≡ Interior) → AgreeIn iq iq' (windowOf fs) b) where
-  same : (c : BlockClass) (b : ℕ) → b < nb → isIn c class b ≡ isIn c class' b
+module _ (iq iq' : List Float) (fs carrier : Float) (class class' : ℕ → BlockClass) (blocks : ℕ)
+    (alike : (b : ℕ) → b < blocks → class b ≡ class' b)
+    (agree : (b : ℕ) → b < blocks → (class b ≡ Gap) ⊎ (class b ≡ Interior) → AgreeIn iq iq' (windowOf fs) b) where
+  same : (c : BlockClass) (b : ℕ) → b < blocks → isIn c class b ≡ isIn c class' b
   same c b h = ap (isClass c) (alike b h)
 
-  gap-agrees : (c : Float) (b : ℕ) → b < nb → isIn Gap class' b ≡ true → meanAt iq fs c b ≡ meanAt iq' fs c b
+  gap-agrees : (c : Float) (b : ℕ) → b < blocks → isIn Gap class' b ≡ true → meanAt iq fs c b ≡ meanAt iq' fs c b
   gap-agrees c b h e = block-agree iq iq' (c ⊘ fs) (windowOf fs) b (agree b h (inl (alike b h ∙ gap-is (class' b) e)))
 
-  interior-agrees : (b : ℕ) → b < nb → isIn Interior class' b ≡ true → meanAt iq fs carrier b ≡ meanAt iq' fs carrier b
+  interior-agrees : (b : ℕ) → b < blocks → isIn Interior class' b ≡ true → meanAt iq fs carrier b ≡ meanAt iq' fs carrier b
   interior-agrees b h e = block-agree iq iq' (carrier ⊘ fs) (windowOf fs) b (agree b h (inr (alike b h ∙ interior-is (class' b) e)))
 
-  pub reference-reach : referenceOf iq fs carrier class nb ≡ referenceOf iq' fs carrier class' nb
+  pub reference-reach : referenceOf iq fs carrier class blocks ≡ referenceOf iq' fs carrier class' blocks
   unfolding referenceOf
   reference-reach =
-      reference-same (meanAt iq fs) (meanAt iq' fs) (isIn Gap class) (isIn Gap class') (meanAt iq fs carrier) (meanAt iq' fs carrier) nb (same Gap) (gap-agrees carrier) gap-agrees
+      reference-same (meanAt iq fs) (meanAt iq' fs) (isIn Gap class) (isIn Gap class') (meanAt iq fs carrier) (meanAt iq' fs carrier) blocks (same Gap) (gap-agrees carrier) gap-agrees
       (isIn Interior class) (isIn Interior class') (same Interior) interior-agrees carrier
 
-  pub evidence-reach : evidenceOf iq fs carrier class nb ≡ evidenceOf iq' fs carrier class' nb
+  pub evidence-reach : evidenceOf iq fs carrier class blocks ≡ evidenceOf iq' fs carrier class' blocks
   unfolding evidenceOf
   evidence-reach =
-      evidence-same (meanAt iq fs) (meanAt iq' fs) (isIn Gap class) (isIn Gap class') (meanAt iq fs carrier) (meanAt iq' fs carrier) nb (same Gap) (gap-agrees carrier) gap-agrees
+      evidence-same (meanAt iq fs) (meanAt iq' fs) (isIn Gap class) (isIn Gap class') (meanAt iq fs carrier) (meanAt iq' fs carrier) blocks (same Gap) (gap-agrees carrier) gap-agrees
       (isIn Interior class) (isIn Interior class') (same Interior) interior-agrees fs carrier
 
 -- of one length and one estimate in the Rust's own fields: the positions `up` and `down`, which 01 adds, may differ

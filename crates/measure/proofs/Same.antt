@@ -1,15 +1,14 @@
 -- The evidence depends on the gap blocks and the interior blocks alone: rows that agree there have the same reference
 -- (`reference-same`) and the same evidence (`evidence-same`).
-use Prim.Native.Nat.{ℕ, zero, suc, _+_, _-_, _≤_, _<_}
+use Prim.Native.Nat.{ℕ, zero, suc, _+_, _-_, _<_}
 use native.Mathlib.Omega.{arith}
-use mathlib.Core.Path.{_≡_, refl, sym, ap, _∙_}
+use mathlib.Core.Path.{_≡_, refl, ap, _∙_}
 use mathlib.Core.Bool.{Bool, true, false, _&&_, _||_, cond, false≢true}
 use mathlib.Core.List.{List, [], _∷_, _++_, append-nil}
 use borrow.Author.Tests.{ltb-true}
 use lib.Dec.{ltb}
 use lib.Ieee.{Float, neg, lt}
 use Rattle.float.specs.Ops.{_⊕_, _⊖_, _⊘_, of, minus-zero}
-use Rattle.lists.specs.Count.{countTo}
 use Rattle.lists.specs.Those.{picked}
 use Rattle.lists.specs.Sums.{sumOver}
 use Rattle.lists.proofs.Count.{count-cong}
@@ -18,40 +17,40 @@ use Rattle.lists.proofs.Sums.{over-more}
 use Rattle.lists.proofs.Those.{picked-cong}
 use Rattle.constants.specs.Constants.{REFERENCE_OFFSET_HZ}
 use Rattle.complex.specs.declared.value.Complex.{Complex}
-use Rattle.complex.specs.Value.{cMul, cConj, cNormSqr}
+use Rattle.complex.specs.Value.{cNormSqr}
 use Rattle.row.specs.Window.{windowOf}
 use Rattle.prepared.specs.Powers.{blockPower}
-use Rattle.gaps.specs.Reference.{sideOf, referenceFrom, referenceBy}
-use Rattle.gaps.specs.Pairs.{above, hot, strong, gapsOf, preceded, followed, pairAt, lagged, products, pairsOf, inPair, pairBlocks}
+use Rattle.gaps.specs.Reference.{referenceBy}
+use Rattle.gaps.specs.Pairs.{above, hot, strong, gapsOf, preceded, followed, pairAt, lagged, pairsOf, inPair, pairBlocks}
 use Rattle.measure.specs.Offset.{powerAt, stronger, strongest, offsetFrom}
 use Rattle.measure.specs.Evidence.{evidenceWith, evidenceBy}
 
 -- ---- tests that agree have the same pairs
 
-module _ (s t : ℕ → Bool) (nb : ℕ) (same : (b : ℕ) → b < nb → s b ≡ t b) where
-  preceded-same : (b : ℕ) → b < nb → preceded s b ≡ preceded t b
+module _ (s t : ℕ → Bool) (blocks : ℕ) (same : (b : ℕ) → b < blocks → s b ≡ t b) where
+  preceded-same : (b : ℕ) → b < blocks → preceded s b ≡ preceded t b
   unfolding preceded
   preceded-same zero h = refl
   preceded-same (suc a) h = same a (omega arith)
 
-  followed-same : (b : ℕ) → followed s nb b ≡ followed t nb b
+  followed-same : (b : ℕ) → followed s blocks b ≡ followed t blocks b
   unfolding followed
-  followed-same b = go (ltb (b + 1) nb) refl
+  followed-same b = go (ltb (b + 1) blocks) refl
     where
-      go : (c : Bool) → ltb (b + 1) nb ≡ c → (c && s (b + 1)) ≡ (c && t (b + 1))
-      go true e = same (b + 1) (ltb-true (b + 1) nb e)
+      go : (c : Bool) → ltb (b + 1) blocks ≡ c → (c && s (b + 1)) ≡ (c && t (b + 1))
+      go true e = same (b + 1) (ltb-true (b + 1) blocks e)
       go false e = refl
 
-  pub pair-same : (b : ℕ) → b < nb → pairAt s b ≡ pairAt t b
+  pub pair-same : (b : ℕ) → b < blocks → pairAt s b ≡ pairAt t b
   unfolding pairAt
   pair-same b h = rw (preceded-same b h, same b h)
 
-  in-same : (b : ℕ) → b < nb → inPair s nb b ≡ inPair t nb b
+  in-same : (b : ℕ) → b < blocks → inPair s blocks b ≡ inPair t blocks b
   unfolding inPair
   in-same b h = rw (same b h, preceded-same b h, followed-same b)
 
-  pub blocks-same : pairBlocks s nb ≡ pairBlocks t nb
-  blocks-same = picked-cong (inPair s nb) (inPair t nb) (λ b. b) (λ b. b) nb in-same (λ b h e. refl)
+  pub blocks-same : pairBlocks s blocks ≡ pairBlocks t blocks
+  blocks-same = picked-cong (inPair s blocks) (inPair t blocks) (λ b. b) (λ b. b) blocks in-same (λ b h e. refl)
 
 -- both blocks of a pair are strong
 pub pair-first : (s : ℕ → Bool) (b : ℕ) → pairAt s b ≡ true → s (b - 1) ≡ true
@@ -63,9 +62,9 @@ pub pair-second : (s : ℕ → Bool) (b : ℕ) → pairAt s b ≡ true → s b �
 unfolding pairAt
 pair-second s b e = and-right (preceded s b) (s b) e
 
-pub in-strong : (s : ℕ → Bool) (nb b : ℕ) → inPair s nb b ≡ true → s b ≡ true
+pub in-strong : (s : ℕ → Bool) (blocks b : ℕ) → inPair s blocks b ≡ true → s b ≡ true
 unfolding inPair
-in-strong s nb b e = and-left (s b) (preceded s b || followed s nb b) e
+in-strong s blocks b e = and-left (s b) (preceded s b || followed s blocks b) e
 
 -- what is above a level is a gap block
 pub above-gap : (gap : ℕ → Bool) (z : ℕ → Complex) (level : Float) (b : ℕ) → above gap z level b ≡ true → gap b ≡ true
@@ -74,8 +73,8 @@ above-gap gap z level b e = and-left (gap b) (lt level (blockPower z b)) e
 
 -- ---- rows of means that agree at the gap blocks
 
-module _ (gap gap' : ℕ → Bool) (z z' : ℕ → Complex) (nb : ℕ) (same : (b : ℕ) → b < nb → gap b ≡ gap' b) (alike : (b : ℕ) → b < nb → gap' b ≡ true → z b ≡ z' b) where
-  above-same : (level : Float) (b : ℕ) → b < nb → above gap z level b ≡ above gap' z' level b
+module _ (gap gap' : ℕ → Bool) (z z' : ℕ → Complex) (blocks : ℕ) (same : (b : ℕ) → b < blocks → gap b ≡ gap' b) (alike : (b : ℕ) → b < blocks → gap' b ≡ true → z b ≡ z' b) where
+  above-same : (level : Float) (b : ℕ) → b < blocks → above gap z level b ≡ above gap' z' level b
   unfolding above
   above-same level b h = rw (same b h) (go (gap' b) refl)
     where
@@ -83,17 +82,17 @@ module _ (gap gap' : ℕ → Bool) (z z' : ℕ → Complex) (nb : ℕ) (same : (
       go true e = rw (alike b h e)
       go false e = refl
 
-  pub gaps-same : (ref : Float) → gapsOf gap z ref nb ≡ gapsOf gap' z' ref nb
+  pub gaps-same : (ref : Float) → gapsOf gap z ref blocks ≡ gapsOf gap' z' ref blocks
   unfolding gapsOf
   gaps-same ref =
-      rw (count-cong gap gap' nb same, count-cong (hot gap z ref) (hot gap' z' ref) nb (λ b h. above-same _ b h))
+      rw (count-cong gap gap' blocks same, count-cong (hot gap z ref) (hot gap' z' ref) blocks (λ b h. above-same _ b h))
 
-  pub pairs-same : (ref : Float) → pairsOf (strong gap z ref) z nb ≡ pairsOf (strong gap' z' ref) z' nb
+  pub pairs-same : (ref : Float) → pairsOf (strong gap z ref) z blocks ≡ pairsOf (strong gap' z' ref) z' blocks
   unfolding pairsOf
   pairs-same ref =
       rw (
-        count-cong (pairAt s) (pairAt t) nb (pair-same s t nb tests),
-        picked-cong (pairAt s) (pairAt t) (lagged z) (lagged z') nb (pair-same s t nb tests) product-same,
+        count-cong (pairAt s) (pairAt t) blocks (pair-same s t blocks tests),
+        picked-cong (pairAt s) (pairAt t) (lagged z) (lagged z') blocks (pair-same s t blocks tests) product-same,
       )
     where
       s : ℕ → Bool
@@ -102,17 +101,17 @@ module _ (gap gap' : ℕ → Bool) (z z' : ℕ → Complex) (nb : ℕ) (same : (
       t : ℕ → Bool
       t = strong gap' z' ref
 
-      tests : (b : ℕ) → b < nb → s b ≡ t b
+      tests : (b : ℕ) → b < blocks → s b ≡ t b
       tests b h = above-same _ b h
 
-      product-same : (b : ℕ) → b < nb → pairAt t b ≡ true → lagged z b ≡ lagged z' b
+      product-same : (b : ℕ) → b < blocks → pairAt t b ≡ true → lagged z b ≡ lagged z' b
       product-same b h e =
           let one : gap' (b - 1) ≡ true = above-gap gap' z' _ (b - 1) (pair-first t b e) in
           let two : gap' b ≡ true = above-gap gap' z' _ b (pair-second t b e) in
           rw (alike b h two, alike (b - 1) (omega arith) one)
 
-  pub strong-same : (ref : Float) → pairBlocks (strong gap z ref) nb ≡ pairBlocks (strong gap' z' ref) nb
-  strong-same ref = blocks-same (strong gap z ref) (strong gap' z' ref) nb (λ b h. above-same _ b h)
+  pub strong-same : (ref : Float) → pairBlocks (strong gap z ref) blocks ≡ pairBlocks (strong gap' z' ref) blocks
+  strong-same ref = blocks-same (strong gap z ref) (strong gap' z' ref) blocks (λ b h. above-same _ b h)
 
 -- ---- powers at other carriers
 
@@ -141,49 +140,49 @@ strongest-same p q f0 rate e =
 
 -- ---- the evidence
 
-module _ (mean mean' : Float → ℕ → Complex) (gap gap' : ℕ → Bool) (z z' : ℕ → Complex) (nb : ℕ)
-    (same : (b : ℕ) → b < nb → gap b ≡ gap' b)
-    (alike : (b : ℕ) → b < nb → gap' b ≡ true → z b ≡ z' b)
-    (others : (c : Float) (b : ℕ) → b < nb → gap' b ≡ true → mean c b ≡ mean' c b) where
+module _ (mean mean' : Float → ℕ → Complex) (gap gap' : ℕ → Bool) (z z' : ℕ → Complex) (blocks : ℕ)
+    (same : (b : ℕ) → b < blocks → gap b ≡ gap' b)
+    (alike : (b : ℕ) → b < blocks → gap' b ≡ true → z b ≡ z' b)
+    (others : (c : Float) (b : ℕ) → b < blocks → gap' b ≡ true → mean c b ≡ mean' c b) where
   power-same : (carrier ref f : Float)
-      → powerAt mean carrier (pairBlocks (strong gap' z' ref) nb) f ≡ powerAt mean' carrier (pairBlocks (strong gap' z' ref) nb) f
+      → powerAt mean carrier (pairBlocks (strong gap' z' ref) blocks) f ≡ powerAt mean' carrier (pairBlocks (strong gap' z' ref) blocks) f
   unfolding powerAt
   power-same carrier ref f =
       let s = strong gap' z' ref in
-      over-same (inPair s nb) (blockPower (mean (carrier ⊕ f))) (blockPower (mean' (carrier ⊕ f))) minus-zero nb
-      (λ b h e. ap cNormSqr (others (carrier ⊕ f) b h (above-gap gap' z' _ b (in-strong s nb b e))))
+      over-same (inPair s blocks) (blockPower (mean (carrier ⊕ f))) (blockPower (mean' (carrier ⊕ f))) minus-zero blocks
+      (λ b h e. ap cNormSqr (others (carrier ⊕ f) b h (above-gap gap' z' _ b (in-strong s blocks b e))))
 
   offset-same : (carrier rate ref : Float)
-      → offsetFrom mean carrier rate (pairsOf (strong gap z ref) z nb) (pairBlocks (strong gap z ref) nb)
-      ≡ offsetFrom mean' carrier rate (pairsOf (strong gap' z' ref) z' nb) (pairBlocks (strong gap' z' ref) nb)
+      → offsetFrom mean carrier rate (pairsOf (strong gap z ref) z blocks) (pairBlocks (strong gap z ref) blocks)
+      ≡ offsetFrom mean' carrier rate (pairsOf (strong gap' z' ref) z' blocks) (pairBlocks (strong gap' z' ref) blocks)
   unfolding offsetFrom
   offset-same carrier rate ref =
       rw (
-        pairs-same gap gap' z z' nb same alike ref,
-        strong-same gap gap' z z' nb same alike ref,
-        strongest-same (powerAt mean carrier (pairBlocks (strong gap' z' ref) nb)) (powerAt mean' carrier (pairBlocks (strong gap' z' ref) nb)) _ rate (power-same carrier ref),
+        pairs-same gap gap' z z' blocks same alike ref,
+        strong-same gap gap' z z' blocks same alike ref,
+        strongest-same (powerAt mean carrier (pairBlocks (strong gap' z' ref) blocks)) (powerAt mean' carrier (pairBlocks (strong gap' z' ref) blocks)) _ rate (power-same carrier ref),
       )
 
-  pub with-same : (fs carrier ref : Float) → evidenceWith mean fs carrier gap z nb ref ≡ evidenceWith mean' fs carrier gap' z' nb ref
+  pub with-same : (fs carrier ref : Float) → evidenceWith mean fs carrier gap z blocks ref ≡ evidenceWith mean' fs carrier gap' z' blocks ref
   unfolding evidenceWith
   with-same fs carrier ref =
-      rw (gaps-same gap gap' z z' nb same alike ref, offset-same carrier (fs ⊘ of (windowOf fs)) ref, pairs-same gap gap' z z' nb same alike ref)
+      rw (gaps-same gap gap' z z' blocks same alike ref, offset-same carrier (fs ⊘ of (windowOf fs)) ref, pairs-same gap gap' z z' blocks same alike ref)
 
   module _ (interior interior' : ℕ → Bool)
-      (insides : (b : ℕ) → b < nb → interior b ≡ interior' b)
-      (within : (b : ℕ) → b < nb → interior' b ≡ true → z b ≡ z' b) where
-    pub reference-same : (carrier : Float) → referenceBy mean carrier gap interior z nb ≡ referenceBy mean' carrier gap' interior' z' nb
+      (insides : (b : ℕ) → b < blocks → interior b ≡ interior' b)
+      (within : (b : ℕ) → b < blocks → interior' b ≡ true → z b ≡ z' b) where
+    pub reference-same : (carrier : Float) → referenceBy mean carrier gap interior z blocks ≡ referenceBy mean' carrier gap' interior' z' blocks
     unfolding referenceBy
     reference-same carrier =
         rw (
           side-same (carrier ⊕ neg REFERENCE_OFFSET_HZ),
           side-same (carrier ⊕ REFERENCE_OFFSET_HZ),
-          picked-cong interior interior' (blockPower z) (blockPower z') nb insides (λ b h e. ap cNormSqr (within b h e)),
+          picked-cong interior interior' (blockPower z) (blockPower z') blocks insides (λ b h e. ap cNormSqr (within b h e)),
         )
       where
-        side-same : (c : Float) → picked gap (blockPower (mean c)) nb ≡ picked gap' (blockPower (mean' c)) nb
-        side-same c = picked-cong gap gap' (blockPower (mean c)) (blockPower (mean' c)) nb same (λ b h e. ap cNormSqr (others c b h e))
+        side-same : (c : Float) → picked gap (blockPower (mean c)) blocks ≡ picked gap' (blockPower (mean' c)) blocks
+        side-same c = picked-cong gap gap' (blockPower (mean c)) (blockPower (mean' c)) blocks same (λ b h e. ap cNormSqr (others c b h e))
 
-    pub evidence-same : (fs carrier : Float) → evidenceBy mean fs carrier gap interior z nb ≡ evidenceBy mean' fs carrier gap' interior' z' nb
+    pub evidence-same : (fs carrier : Float) → evidenceBy mean fs carrier gap interior z blocks ≡ evidenceBy mean' fs carrier gap' interior' z' blocks
     unfolding evidenceBy
-    evidence-same fs carrier = rw (reference-same carrier) (with-same fs carrier (referenceBy mean' carrier gap' interior' z' nb))
+    evidence-same fs carrier = rw (reference-same carrier) (with-same fs carrier (referenceBy mean' carrier gap' interior' z' blocks))

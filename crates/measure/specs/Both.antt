@@ -12,10 +12,9 @@ use Rattle.measure.specs.Evidence.{evidenceCheckOf}
 -- of a recording at a rate and an estimate: its carrier, fits and elements
 unfoldable pub measuresOf : List Float → Float → Float → List ElementFit → List KeyedElement → Measures
 measuresOf iq fs carrier fits elements =
-    let nb = blocks iq (windowOf fs) in
     record {
-      blocks = nb;
-      classes = countsOf (classOf fs (samples iq) fits elements) nb;
+      blocks = blocks iq (windowOf fs);
+      classes = countsOf (classOf fs (samples iq) fits elements) (blocks iq (windowOf fs));
       residual = residualCheckOf iq fs carrier fits elements;
       evidence = evidenceCheckOf iq fs carrier fits elements;
     }

@@ -34,34 +34,34 @@ hotFraction g = cond (eqb (g .blocks) 0) plus-zero (of (g .hot) ⊘ of (g .block
 unfoldable pub coherenceOf : Pairs → Float
 coherenceOf p = cond (lt plus-zero (p .size)) (cNorm (p .sum) ⊘ p .size) plus-zero
 
--- Of nb blocks with the means z at the carrier: `gap` and `interior` tell the blocks of these classes, and `mean c` is
+-- Of so many blocks with the means z at the carrier: `gap` and `interior` tell those of these classes, and `mean c` is
 -- the row of block means at the carrier c.
 module _ (mean : Float → ℕ → Complex) (fs carrier : Float) (gap : ℕ → Bool) where
   -- the evidence against a reference
   unfoldable pub evidenceWith : (ℕ → Complex) → ℕ → Float → SecondCarrierEvidence
-  evidenceWith z nb ref =
-      let gaps = gapsOf gap z ref nb in
+  evidenceWith z blocks ref =
+      let gaps = gapsOf gap z ref blocks in
       let s = strong gap z ref in
-      let pairs = pairsOf s z nb in
+      let pairs = pairsOf s z blocks in
       record {
         «gap_blocks» = gaps .blocks;
         «hot_fraction» = hotFraction gaps;
-        «offset_hz» = offsetFrom mean carrier (fs ⊘ of (windowOf fs)) pairs (pairBlocks s nb);
+        «offset_hz» = offsetFrom mean carrier (fs ⊘ of (windowOf fs)) pairs (pairBlocks s blocks);
         coherence = coherenceOf pairs;
       }
 
   -- against the reference that is measured
   unfoldable pub evidenceBy : (ℕ → Bool) → (ℕ → Complex) → ℕ → SecondCarrierEvidence
-  evidenceBy interior z nb = evidenceWith z nb (referenceBy mean carrier gap interior z nb)
+  evidenceBy interior z blocks = evidenceWith z blocks (referenceBy mean carrier gap interior z blocks)
 
 -- of a recording at a rate and a carrier, by the class of each of its blocks
 module _ (iq : List Float) (fs : Float) where
-  module _ (carrier : Float) (class : ℕ → BlockClass) (nb : ℕ) where
+  module _ (carrier : Float) (class : ℕ → BlockClass) (blocks : ℕ) where
     unfoldable pub referenceOf : Float
-    referenceOf = referenceBy (meanAt iq fs) carrier (isIn Gap class) (isIn Interior class) (meanAt iq fs carrier) nb
+    referenceOf = referenceBy (meanAt iq fs) carrier (isIn Gap class) (isIn Interior class) (meanAt iq fs carrier) blocks
 
     unfoldable pub evidenceOf : SecondCarrierEvidence
-    evidenceOf = evidenceBy (meanAt iq fs) fs carrier (isIn Gap class) (isIn Interior class) (meanAt iq fs carrier) nb
+    evidenceOf = evidenceBy (meanAt iq fs) fs carrier (isIn Gap class) (isIn Interior class) (meanAt iq fs carrier) blocks
 
 -- `second_carrier_evidence`, of a recording at a rate and an estimate: its carrier, fits and elements
 abbrev pub evidenceCheckOf : List Float → Float → Float → List ElementFit → List KeyedElement → SecondCarrierEvidence

@@ -26,6 +26,6 @@ figuresFrom edge interior gap =
 
 -- the residual check of what a prepared slice holds
 unfoldable pub residualIn : List Float → ℕ → Float → List ElementFit → ResidualCheck
-residualIn w nb fs fits =
-    let left = blockPower (residualMean fs nb fits (zAt w)) in
-    figuresOf (picked (classIn w (2 * nb) Edge) left nb) (picked (classIn w (2 * nb) Interior) left nb) (picked (classIn w (2 * nb) Gap) left nb)
+residualIn w blocks fs fits =
+    let left = blockPower (residualMean fs blocks fits (zAt w)) in
+    figuresOf (picked (classIn w (2 * blocks) Edge) left blocks) (picked (classIn w (2 * blocks) Interior) left blocks) (picked (classIn w (2 * blocks) Gap) left blocks)

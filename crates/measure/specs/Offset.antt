@@ -1,7 +1,7 @@
 -- The offset of a second carrier (01, part 6: `second_carrier_evidence`): a number or absent. `mean c` is the row of
 -- block means at the carrier c. Definitions only.
 use Prim.Native.Nat.{ℕ}
-use mathlib.Core.Bool.{Bool, cond}
+use mathlib.Core.Bool.{cond}
 use mathlib.Core.List.{List}
 use lib.Dec.{eqb}
 use lib.Ieee.{Float, lt}

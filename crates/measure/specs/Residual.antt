@@ -48,11 +48,11 @@ figuresOf edge interior gap =
       «gap_blocks» = length gap;
     }
 
--- of nb blocks with these means and classes
+-- of so many blocks with these means and classes
 unfoldable pub residualOf : Float → (ℕ → Complex) → (ℕ → BlockClass) → ℕ → List ElementFit → ResidualCheck
-residualOf fs z class nb fits =
-    let left = residualMean fs nb fits z in
-    figuresOf (powersOf Edge class left nb) (powersOf Interior class left nb) (powersOf Gap class left nb)
+residualOf fs z class blocks fits =
+    let left = residualMean fs blocks fits z in
+    figuresOf (powersOf Edge class left blocks) (powersOf Interior class left blocks) (powersOf Gap class left blocks)
 
 -- `residual_check`, of a recording at a rate and an estimate: its carrier, fits and elements
 abbrev pub residualCheckOf : List Float → Float → Float → List ElementFit → List KeyedElement → ResidualCheck

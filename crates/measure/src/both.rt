@@ -45,7 +45,7 @@ pub fn measure_both(
     requires { ⌜ 4 * stepBlocks (now iq) fs ≤ length (now work) ⌝ }
     ensures { λ r. ⌜ r ≡ measuresOf (now (iq .entry)) fs carrier (fitsIn (now (fits .entry)) «fit_count») (elementsIn (now (elements .entry)) «element_count») ⌝ }
 {
-    let nb = prepare(
+    let blocks = prepare(
         iq,
         fs,
         carrier,
@@ -56,13 +56,13 @@ pub fn measure_both(
         work,
         sine,
     );
-    let from = 2 * nb;
-    let past = 3 * nb;
+    let from = 2 * blocks;
+    let past = 3 * blocks;
     let classes = count_classes(&work[from..past]);
-    let check = residual(work, nb, fs, fits, fit_count, sine);
-    let found = evidence(iq, fs, carrier, work, nb, sine);
+    let check = residual(work, blocks, fs, fits, fit_count, sine);
+    let found = evidence(iq, fs, carrier, work, blocks, sine);
     Measures {
-        blocks: nb,
+        blocks: blocks,
         classes,
         residual: check,
         evidence: found,

@@ -14,7 +14,8 @@ ghost use lib.ListN.{length};
 ghost use Rattle.trig.specs.Circle.{quarterSines};
 ghost use Rattle.complex.specs.Rows.{zAt};
 ghost use Rattle.row.specs.Samples.{Iq};
-ghost use Rattle.row.specs.Window.{Rate, windowOf, blocks, stepBlocks};
+ghost use Rattle.row.specs.Window.{Rate, windowOf, stepBlocks};
+ghost use Rattle.row.specs.Window as Window;
 ghost use Rattle.elements.specs.Element.{ELEMENT, elementsIn};
 ghost use Rattle.fits.specs.List.{FIT, fitsIn};
 ghost use Rattle.classes.specs.declared.class.BlockClass.the-variants.{Gap, Interior};
@@ -57,21 +58,21 @@ fn evidence_with(
     carrier: f64,
     len: usize,
     work: &[f64],
-    nb: usize,
+    blocks: usize,
     reference: f64,
     sine: &[f64; 1025],
 ) -> SecondCarrierEvidence
     requires { ⌜ Iq (now iq) ⌝ }
     requires { ⌜ now sine ≡ quarterSines ⌝ }
     requires { ⌜ len ≡ windowOf fs ⌝ }
-    requires { ⌜ nb ≡ blocks (now iq) len ⌝ }
-    requires { ⌜ 3 * nb ≤ length (now work) ⌝ }
-    ensures { λ r. ⌜ r ≡ evidenceWith (meanAt (now (iq .entry)) fs) fs carrier (classIn (now (work .entry)) (2 * nb) Gap)
-        (zAt (now (work .entry))) nb reference ⌝ }
+    requires { ⌜ blocks ≡ Window.blocks (now iq) len ⌝ }
+    requires { ⌜ 3 * blocks ≤ length (now work) ⌝ }
+    ensures { λ r. ⌜ r ≡ evidenceWith (meanAt (now (iq .entry)) fs) fs carrier (classIn (now (work .entry)) (2 * blocks) Gap)
+        (zAt (now (work .entry))) blocks reference ⌝ }
 {
-    let gaps = count_gaps(work, nb, reference);
-    let pairs = sum_pairs(work, nb, reference);
-    let offset_hz = find_offset(iq, fs, carrier, len, work, nb, reference, pairs, sine);
+    let gaps = count_gaps(work, blocks, reference);
+    let pairs = sum_pairs(work, blocks, reference);
+    let offset_hz = find_offset(iq, fs, carrier, len, work, blocks, reference, pairs, sine);
     SecondCarrierEvidence {
         gap_blocks: gaps.blocks,
         hot_fraction: hot_fraction(gaps),
@@ -86,20 +87,20 @@ pub fn evidence(
     fs: f64,
     carrier: f64,
     work: &mut [f64],
-    nb: usize,
+    blocks: usize,
     sine: &[f64; 1025],
 ) -> SecondCarrierEvidence
     requires { ⌜ Iq (now iq) ⌝ }
     requires { ⌜ Rate fs ⌝ }
     requires { ⌜ now sine ≡ quarterSines ⌝ }
-    requires { ⌜ nb ≡ blocks (now iq) (windowOf fs) ⌝ }
-    requires { ⌜ 5 * nb ≤ length (now work) ⌝ }
-    ensures { λ r. ⌜ r ≡ evidenceBy (meanAt (now (iq .entry)) fs) fs carrier (classIn (now (work .entry)) (2 * nb) Gap)
-        (classIn (now (work .entry)) (2 * nb) Interior) (zAt (now (work .entry))) nb ⌝ }
+    requires { ⌜ blocks ≡ Window.blocks (now iq) (windowOf fs) ⌝ }
+    requires { ⌜ 5 * blocks ≤ length (now work) ⌝ }
+    ensures { λ r. ⌜ r ≡ evidenceBy (meanAt (now (iq .entry)) fs) fs carrier (classIn (now (work .entry)) (2 * blocks) Gap)
+        (classIn (now (work .entry)) (2 * blocks) Interior) (zAt (now (work .entry))) blocks ⌝ }
 {
     let len = 8 * edge_step(fs);
-    let reference = find_reference(iq, fs, carrier, len, work, nb, sine);
-    evidence_with(iq, fs, carrier, len, work, nb, reference, sine)
+    let reference = find_reference(iq, fs, carrier, len, work, blocks, sine);
+    evidence_with(iq, fs, carrier, len, work, blocks, reference, sine)
 }
 
 // Rust: second_carrier_evidence. The means, the classes and the powers are in the lent work slice.
@@ -122,7 +123,7 @@ pub fn second_carrier_evidence(
     requires { ⌜ 4 * stepBlocks (now iq) fs ≤ length (now work) ⌝ }
     ensures { λ r. ⌜ r ≡ evidenceCheckOf (now (iq .entry)) fs carrier (fitsIn (now (fits .entry)) «fit_count») (elementsIn (now (elements .entry)) «element_count») ⌝ }
 {
-    let nb = prepare(
+    let blocks = prepare(
         iq,
         fs,
         carrier,
@@ -133,5 +134,5 @@ pub fn second_carrier_evidence(
         work,
         sine,
     );
-    evidence(iq, fs, carrier, work, nb, sine)
+    evidence(iq, fs, carrier, work, blocks, sine)
 }

@@ -14,7 +14,8 @@ ghost use Rattle.lists.specs.Sums.{sumOver};
 ghost use Rattle.trig.specs.Circle.{quarterSines};
 ghost use Rattle.complex.specs.Rows.{zAt};
 ghost use Rattle.row.specs.Samples.{Iq};
-ghost use Rattle.row.specs.Window.{windowOf, blocks};
+ghost use Rattle.row.specs.Window.{windowOf};
+ghost use Rattle.row.specs.Window as Window;
 ghost use Rattle.row.specs.Blocks.{blockMean};
 ghost use Rattle.classes.specs.declared.class.BlockClass.the-variants.{Gap};
 ghost use Rattle.prepared.specs.Inner.{classIn};
@@ -41,20 +42,20 @@ fn paired_power(
     cyc: f64,
     len: usize,
     work: &[f64],
-    nb: usize,
+    blocks: usize,
     level: f64,
     sine: &[f64; 1025],
 ) -> f64
     requires { ⌜ Iq (now iq) ⌝ }
     requires { ⌜ now sine ≡ quarterSines ⌝ }
-    requires { ⌜ nb ≡ blocks (now iq) len ⌝ }
-    requires { ⌜ 3 * nb ≤ length (now work) ⌝ }
+    requires { ⌜ blocks ≡ Window.blocks (now iq) len ⌝ }
+    requires { ⌜ 3 * blocks ≤ length (now work) ⌝ }
     ensures { λ r. ⌜ r ≡ sumOver (blockPower (blockMean (now (iq .entry)) cyc len)) minus-zero
-        (pairBlocks (above (classIn (now (work .entry)) (2 * nb) Gap) (zAt (now (work .entry))) level) nb) ⌝ }
+        (pairBlocks (above (classIn (now (work .entry)) (2 * blocks) Gap) (zAt (now (work .entry))) level) blocks) ⌝ }
 {
     let mut sum = -0.0;
-    for b in 0..nb {
-        if in_pair(work, nb, level, b) {
+    for b in 0..blocks {
+        if in_pair(work, blocks, level, b) {
             sum = sum + block_mean(iq, cyc, len, b, sine).norm_sqr();
         }
     }
@@ -68,7 +69,7 @@ fn measured(
     carrier: f64,
     len: usize,
     work: &[f64],
-    nb: usize,
+    blocks: usize,
     level: f64,
     f: f64,
     sine: &[f64; 1025],
@@ -76,14 +77,14 @@ fn measured(
     requires { ⌜ Iq (now iq) ⌝ }
     requires { ⌜ now sine ≡ quarterSines ⌝ }
     requires { ⌜ len ≡ windowOf fs ⌝ }
-    requires { ⌜ nb ≡ blocks (now iq) len ⌝ }
-    requires { ⌜ 3 * nb ≤ length (now work) ⌝ }
+    requires { ⌜ blocks ≡ Window.blocks (now iq) len ⌝ }
+    requires { ⌜ 3 * blocks ≤ length (now work) ⌝ }
     ensures { λ r. ⌜ (r .hz ≡ f) × (r .power ≡ powerAt (meanAt (now (iq .entry)) fs) carrier
-        (pairBlocks (above (classIn (now (work .entry)) (2 * nb) Gap) (zAt (now (work .entry))) level) nb) f) ⌝ }
+        (pairBlocks (above (classIn (now (work .entry)) (2 * blocks) Gap) (zAt (now (work .entry))) level) blocks) f) ⌝ }
 {
     Candidate {
         hz: f,
-        power: paired_power(iq, (carrier + f) / fs, len, work, nb, level, sine),
+        power: paired_power(iq, (carrier + f) / fs, len, work, blocks, level, sine),
     }
 }
 
@@ -101,7 +102,7 @@ fn strongest(
     carrier: f64,
     len: usize,
     work: &[f64],
-    nb: usize,
+    blocks: usize,
     level: f64,
     f0: f64,
     rate: f64,
@@ -110,14 +111,14 @@ fn strongest(
     requires { ⌜ Iq (now iq) ⌝ }
     requires { ⌜ now sine ≡ quarterSines ⌝ }
     requires { ⌜ len ≡ windowOf fs ⌝ }
-    requires { ⌜ nb ≡ blocks (now iq) len ⌝ }
-    requires { ⌜ 3 * nb ≤ length (now work) ⌝ }
+    requires { ⌜ blocks ≡ Window.blocks (now iq) len ⌝ }
+    requires { ⌜ 3 * blocks ≤ length (now work) ⌝ }
     ensures { λ r. ⌜ r ≡ strongest (powerAt (meanAt (now (iq .entry)) fs) carrier
-        (pairBlocks (above (classIn (now (work .entry)) (2 * nb) Gap) (zAt (now (work .entry))) level) nb)) f0 rate ⌝ }
+        (pairBlocks (above (classIn (now (work .entry)) (2 * blocks) Gap) (zAt (now (work .entry))) level) blocks)) f0 rate ⌝ }
 {
-    let first = measured(iq, fs, carrier, len, work, nb, level, f0, sine);
-    let under = measured(iq, fs, carrier, len, work, nb, level, f0 - rate, sine);
-    let over = measured(iq, fs, carrier, len, work, nb, level, f0 + rate, sine);
+    let first = measured(iq, fs, carrier, len, work, blocks, level, f0, sine);
+    let under = measured(iq, fs, carrier, len, work, blocks, level, f0 - rate, sine);
+    let over = measured(iq, fs, carrier, len, work, blocks, level, f0 + rate, sine);
     let best = stronger(stronger(first, under), over);
     best.hz
 }
@@ -129,7 +130,7 @@ pub fn find_offset(
     carrier: f64,
     len: usize,
     work: &[f64],
-    nb: usize,
+    blocks: usize,
     reference: f64,
     pairs: Pairs,
     sine: &[f64; 1025],
@@ -137,10 +138,10 @@ pub fn find_offset(
     requires { ⌜ Iq (now iq) ⌝ }
     requires { ⌜ now sine ≡ quarterSines ⌝ }
     requires { ⌜ len ≡ windowOf fs ⌝ }
-    requires { ⌜ nb ≡ blocks (now iq) len ⌝ }
-    requires { ⌜ 3 * nb ≤ length (now work) ⌝ }
+    requires { ⌜ blocks ≡ Window.blocks (now iq) len ⌝ }
+    requires { ⌜ 3 * blocks ≤ length (now work) ⌝ }
     ensures { λ r. ⌜ r ≡ offsetFrom (meanAt (now (iq .entry)) fs) carrier (fs ⊘ of (windowOf fs)) pairs
-        (pairBlocks (strong (classIn (now (work .entry)) (2 * nb) Gap) (zAt (now (work .entry))) reference) nb) ⌝ }
+        (pairBlocks (strong (classIn (now (work .entry)) (2 * blocks) Gap) (zAt (now (work .entry))) reference) blocks) ⌝ }
 {
     if pairs.count == 0 {
         return Offset::Absent;
@@ -148,5 +149,5 @@ pub fn find_offset(
     let rate = fs / float::from_whole(len);
     let f0 = pairs.sum.arg() * rate / TAU;
     let level = PAIR_FACTOR * reference;
-    Offset::Hz(strongest(iq, fs, carrier, len, work, nb, level, f0, rate, sine))
+    Offset::Hz(strongest(iq, fs, carrier, len, work, blocks, level, f0, rate, sine))
 }

@@ -87,7 +87,7 @@ fn figures(edge: Level, interior: Level, gap: Level) -> ResidualCheck
 // Rust: residual_check, past the block means and their classes, which stand in a prepared work slice and stay there.
 pub fn residual(
     work: &mut [f64],
-    nb: usize,
+    blocks: usize,
     fs: f64,
     fits: &[f64],
     count: usize,
@@ -95,19 +95,27 @@ pub fn residual(
 ) -> ResidualCheck
     requires { ⌜ now sine ≡ quarterSines ⌝ }
     requires { ⌜ Rate fs ⌝ }
-    requires { ⌜ nb * windowOf fs ≤ 1048576 ⌝ }
-    requires { ⌜ 7 * nb ≤ length (now work) ⌝ }
+    requires { ⌜ blocks * windowOf fs ≤ 1048576 ⌝ }
+    requires { ⌜ 7 * blocks ≤ length (now work) ⌝ }
     requires { ⌜ FIT * count ≤ length (now fits) ⌝ }
-    ensures { λ r. ⌜ (r ≡ residualIn (now (work .entry)) nb fs (fitsIn (now (fits .entry)) count))
-        × (take (3 * nb) (now (work .exit)) ≡ take (3 * nb) (now (work .entry))) ⌝ }
+    ensures { λ r. ⌜ (r ≡ residualIn (now (work .entry)) blocks fs (fitsIn (now (fits .entry)) count))
+        × (take (3 * blocks) (now (work .exit)) ≡ take (3 * blocks) (now (work .entry))) ⌝ }
 {
     let len = 8 * row::edge_step(fs);
-    lessen(work, nb, fits, count, fs, len, sine);
-    let at = 2 * nb;
-    let out = 6 * nb;
-    let edge = level_of(work, at, at, nb, BlockClass::Edge, out, 0.5);
-    let interior = level_of(work, at, at, nb, BlockClass::Interior, out, 0.5);
-    let gap = level_of(work, at, at, nb, BlockClass::Gap, out, NEIGHBOUR_PERCENTILE);
+    lessen(work, blocks, fits, count, fs, len, sine);
+    let at = 2 * blocks;
+    let out = 6 * blocks;
+    let edge = level_of(work, at, at, blocks, BlockClass::Edge, out, 0.5);
+    let interior = level_of(work, at, at, blocks, BlockClass::Interior, out, 0.5);
+    let gap = level_of(
+        work,
+        at,
+        at,
+        blocks,
+        BlockClass::Gap,
+        out,
+        NEIGHBOUR_PERCENTILE,
+    );
     figures(edge, interior, gap)
 }
 
@@ -131,7 +139,7 @@ pub fn residual_check(
     requires { ⌜ 4 * stepBlocks (now iq) fs ≤ length (now work) ⌝ }
     ensures { λ r. ⌜ r ≡ residualCheckOf (now (iq .entry)) fs carrier (fitsIn (now (fits .entry)) «fit_count») (elementsIn (now (elements .entry)) «element_count») ⌝ }
 {
-    let nb = prepare(
+    let blocks = prepare(
         iq,
         fs,
         carrier,
@@ -142,5 +150,5 @@ pub fn residual_check(
         work,
         sine,
     );
-    residual(work, nb, fs, fits, fit_count, sine)
+    residual(work, blocks, fs, fits, fit_count, sine)
 }

@@ -11,7 +11,7 @@ use Rattle.lists.specs.Count.{countTo}
 use Rattle.lists.specs.Those.{picked, keep}
 use Rattle.lists.proofs.Count.{count-most}
 use Rattle.lists.proofs.Those.{picked-cong, length-picked}
-use Rattle.lists.proofs.Kept.{keep-yes, keep-no, keep-done, keep-part, length-keep, getD-keep-below}
+use Rattle.lists.proofs.Kept.{keep-yes, keep-no, keep-part, length-keep, getD-keep-below}
 use Rattle.complex.specs.declared.value.Complex.{Complex}
 use Rattle.complex.specs.Value.{cNormSqr}
 use Rattle.complex.specs.Rows.{zAt}
@@ -81,31 +81,31 @@ module _ (w v : List Float) (p : ℕ → Bool) (f : ℕ → Float) (out n r : �
   level-is x q i = (i ∙ ap (λ l. percentileOf l q) gathered, c ∙ sym (length-picked p f n), gathered-below)
 
 -- the powers in two slices that agree up to `out`
-pub powers-same : (v w : List Float) (means codes nb : ℕ) (c : BlockClass) (out : ℕ)
-    → take out v ≡ take out w → 2 * (means + nb) ≤ out → codes + nb ≤ out → powersIn v means codes nb c ≡ powersIn w means codes nb c
-powers-same v w means codes nb c out e h g =
-    picked-cong (classIn v codes c) (classIn w codes c) (powerIn v means) (powerIn w means) nb
+pub powers-same : (v w : List Float) (means codes blocks : ℕ) (c : BlockClass) (out : ℕ)
+    → take out v ≡ take out w → 2 * (means + blocks) ≤ out → codes + blocks ≤ out → powersIn v means codes blocks c ≡ powersIn w means codes blocks c
+powers-same v w means codes blocks c out e h g =
+    picked-cong (classIn v codes c) (classIn w codes c) (powerIn v means) (powerIn w means) blocks
     (λ b l. ap (λ x. eq x (codeOf c)) (take-at v w out e (codes + b) (omega arith)))
     (λ b l t. ap cNormSqr (zAt-below v w out e (means + b) (omega arith)))
 
 -- the classes and the powers in a prepared slice are those of the rows that it was prepared from
-pub class-prepared : (w : List Float) (z : ℕ → Complex) (class : ℕ → BlockClass) (nb : ℕ) (c : BlockClass) (b : ℕ)
-    → Prepared w z class nb → b < nb → classIn w (2 * nb) c b ≡ isClass c (class b)
-class-prepared w z class nb c b p h = ap (λ x. eq x (codeOf c)) (p .class b h) ∙ code-tells c (class b)
+pub class-prepared : (w : List Float) (z : ℕ → Complex) (class : ℕ → BlockClass) (blocks : ℕ) (c : BlockClass) (b : ℕ)
+    → Prepared w z class blocks → b < blocks → classIn w (2 * blocks) c b ≡ isClass c (class b)
+class-prepared w z class blocks c b p h = ap (λ x. eq x (codeOf c)) (p .class b h) ∙ code-tells c (class b)
 
-pub powers-prepared : (w : List Float) (z : ℕ → Complex) (class : ℕ → BlockClass) (nb : ℕ) (c : BlockClass)
-    → Prepared w z class nb → picked (classIn w (2 * nb) c) (powerIn w 0) nb ≡ powersOf c class z nb
-powers-prepared w z class nb c p =
-    picked-cong (classIn w (2 * nb) c) (λ b. isClass c (class b)) (powerIn w 0) (blockPower z) nb
-    (λ b h. class-prepared w z class nb c b p h)
+pub powers-prepared : (w : List Float) (z : ℕ → Complex) (class : ℕ → BlockClass) (blocks : ℕ) (c : BlockClass)
+    → Prepared w z class blocks → picked (classIn w (2 * blocks) c) (powerIn w 0) blocks ≡ powersOf c class z blocks
+powers-prepared w z class blocks c p =
+    picked-cong (classIn w (2 * blocks) c) (λ b. isClass c (class b)) (powerIn w 0) (blockPower z) blocks
+    (λ b h. class-prepared w z class blocks c b p h)
     (λ b h t. let here : 0 + b ≡ b = omega arith in ap cNormSqr (rw here (p .mean b h)))
 
 -- a slice that was prepared stays so while its means and classes stay
-pub prepared-kept : (w v : List Float) (z : ℕ → Complex) (class : ℕ → BlockClass) (nb : ℕ)
-    → Prepared w z class nb → take (3 * nb) v ≡ take (3 * nb) w → length v ≡ length w → Prepared v z class nb
-prepared-kept w v z class nb p e l =
+pub prepared-kept : (w v : List Float) (z : ℕ → Complex) (class : ℕ → BlockClass) (blocks : ℕ)
+    → Prepared w z class blocks → take (3 * blocks) v ≡ take (3 * blocks) w → length v ≡ length w → Prepared v z class blocks
+prepared-kept w v z class blocks p e l =
     record {
-      mean = λ b h. zAt-below v w (3 * nb) e b (omega arith) ∙ p .mean b h;
-      class = λ b h. take-at v w (3 * nb) e (2 * nb + b) (omega arith) ∙ p .class b h;
+      mean = λ b h. zAt-below v w (3 * blocks) e b (omega arith) ∙ p .mean b h;
+      class = λ b h. take-at v w (3 * blocks) e (2 * blocks + b) (omega arith) ∙ p .class b h;
       room = rw l (p .room);
     }

@@ -3,9 +3,9 @@ use Prim.Native.Nat.{ℕ, _+_, _-_, _*_, _≤_, _<_}
 use native.Mathlib.Omega.{arith}
 use mathlib.Core.Path.{_≡_, sym, ap, _∙_}
 use mathlib.Core.List.{List, _++_}
-use lib.ListN.{length, getD, take, drop, length-take, length-drop, List·getD-append}
-use lib.Seq.{length-take-le, getD-take, getD-drop, getD-append-add, take-take, ext-getD}
-use borrow.Rule.Slice.PartMut.{midOf, postOf, putMid, take-put}
+use lib.ListN.{length, getD, take, List·getD-append}
+use lib.Seq.{length-take-le, getD-take, getD-append-add, take-take, ext-getD}
+use borrow.Rule.Slice.PartMut.{postOf, putMid}
 use lib.Ieee.{Float, nan}
 use Rattle.complex.specs.Rows.{zAt}
 

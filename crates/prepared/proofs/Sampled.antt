@@ -29,10 +29,10 @@ sampled fs len f z lo (suc n) b =
 
 -- `for f in &est.fits`, with `fit_span(f, fs, blocks * len)`
 unfoldable pub sampledAll : Float → ℕ → ℕ → List ElementFit → (ℕ → Complex) → ℕ → Complex
-sampledAll fs len nb [] z b = z b
-sampledAll fs len nb (f ∷ fits) z b =
-    let s = spanOf fs (nb * len) f in
-    sampledAll fs len nb fits (sampled fs len f z (s .lo) (s .hi - s .lo)) b
+sampledAll fs len blocks [] z b = z b
+sampledAll fs len blocks (f ∷ fits) z b =
+    let s = spanOf fs (blocks * len) f in
+    sampledAll fs len blocks fits (sampled fs len f z (s .lo) (s .hi - s .lo)) b
 
 -- a sample lies in block b exactly where the division gives b
 inside : (len k b : ℕ) → 0 < len → k / len ≡ b → (b * len ≤ k) × (k < b * len + len)
@@ -101,18 +101,18 @@ by-block fs len f z lo (suc n) b p = rw (add-suc lo n) (go (eqb ((lo + n) / len)
         )
     go false e less = rw (same (eqb-false (k / len) b e) (decLt k (b * len))) less
 
-pub less-as-sampled : (fs : Float) (len nb : ℕ) (f : ElementFit) (z : ℕ → Complex) (b : ℕ) → 0 < len
-    → let s = spanOf fs (nb * len) f in sampled fs len f z (s .lo) (s .hi - s .lo) b ≡ lessFit fs len nb f b (z b)
+pub less-as-sampled : (fs : Float) (len blocks : ℕ) (f : ElementFit) (z : ℕ → Complex) (b : ℕ) → 0 < len
+    → let s = spanOf fs (blocks * len) f in sampled fs len f z (s .lo) (s .hi - s .lo) b ≡ lessFit fs len blocks f b (z b)
 unfolding lessFit
-less-as-sampled fs len nb f z b p =
-    let s = spanOf fs (nb * len) f in
-    let end : s .lo + (s .hi - s .lo) ≡ s .hi = omega (arith, span-ordered fs (nb * len) f) in
+less-as-sampled fs len blocks f z b p =
+    let s = spanOf fs (blocks * len) f in
+    let end : s .lo + (s .hi - s .lo) ≡ s .hi = omega (arith, span-ordered fs (blocks * len) f) in
     rw (by-block fs len f z (s .lo) (s .hi - s .lo) b p, end)
 
 -- all fits
-pub as-sampled : (fs : Float) (len nb : ℕ) (fits : List ElementFit) (z : ℕ → Complex) (b : ℕ) → 0 < len → sampledAll fs len nb fits z b ≡ lessFits fs len nb fits b (z b)
+pub as-sampled : (fs : Float) (len blocks : ℕ) (fits : List ElementFit) (z : ℕ → Complex) (b : ℕ) → 0 < len → sampledAll fs len blocks fits z b ≡ lessFits fs len blocks fits b (z b)
 unfolding sampledAll lessFits
-as-sampled fs len nb [] z b p = refl
-as-sampled fs len nb (f ∷ fits) z b p =
-    let s = spanOf fs (nb * len) f in
-    as-sampled fs len nb fits (sampled fs len f z (s .lo) (s .hi - s .lo)) b p ∙ ap (lessFits fs len nb fits b) (less-as-sampled fs len nb f z b p)
+as-sampled fs len blocks [] z b p = refl
+as-sampled fs len blocks (f ∷ fits) z b p =
+    let s = spanOf fs (blocks * len) f in
+    as-sampled fs len blocks fits (sampled fs len f z (s .lo) (s .hi - s .lo)) b p ∙ ap (lessFits fs len blocks fits b) (less-as-sampled fs len blocks f z b p)

@@ -53,22 +53,22 @@ module _ (fs : Float) (len : ℕ) (f : ElementFit) (s : Span) (from : ℕ) (z : 
 -- ---- the blocks of a span
 
 -- block b of the row is done, and none after it
-pub record Turned (fs : Float) (len nb : ℕ) (f : ElementFit) (first row : List Float) (b : ℕ) : Type 0 where
-  pub done : (j : ℕ) → j < b → zAt row j ≡ lessFit fs len nb f j (zAt first j)
+pub record Turned (fs : Float) (len blocks : ℕ) (f : ElementFit) (first row : List Float) (b : ℕ) : Type 0 where
+  pub done : (j : ℕ) → j < b → zAt row j ≡ lessFit fs len blocks f j (zAt first j)
   pub rest : (j : ℕ) → b ≤ j → zAt row j ≡ zAt first j
 
-module _ (fs : Float) (len nb : ℕ) (f : ElementFit) (s : Span) (e : s ≡ spanOf fs (nb * len) f) (first : List Float) where
+module _ (fs : Float) (len blocks : ℕ) (f : ElementFit) (s : Span) (e : s ≡ spanOf fs (blocks * len) f) (first : List Float) where
   -- a block that the span does not reach keeps its mean
-  before-span : (j : ℕ) (z : Complex) → j * len + len ≤ s .lo → lessFit fs len nb f j z ≡ z
+  before-span : (j : ℕ) (z : Complex) → j * len + len ≤ s .lo → lessFit fs len blocks f j z ≡ z
   unfolding lessFit
   before-span j z h = rw (← e) (sym (span-none fs len f s (j * len) z (max (s .lo) (j * len)) (min (s .hi) (j * len + len)) refl refl (omega arith)))
 
-  after-span : (j : ℕ) (z : Complex) → s .hi ≤ j * len → lessFit fs len nb f j z ≡ z
+  after-span : (j : ℕ) (z : Complex) → s .hi ≤ j * len → lessFit fs len blocks f j z ≡ z
   unfolding lessFit
   after-span j z h = rw (← e) (sym (span-none fs len f s (j * len) z (max (s .lo) (j * len)) (min (s .hi) (j * len + len)) refl refl (omega arith)))
 
   -- the loop over the blocks: before it, a turn of it, and after it
-  pub turned-none : 0 < len → Turned fs len nb f first first (s .lo / len)
+  pub turned-none : 0 < len → Turned fs len blocks f first first (s .lo / len)
   turned-none p =
       record {
         done = λ j h. sym (before-span j (zAt first j) (omega (arith, le-div-iff-mul-le {k = len} {x = suc j} {y = s .lo} p .0 h, suc-mul j len)));
@@ -76,11 +76,11 @@ module _ (fs : Float) (len nb : ℕ) (f : ElementFit) (s : Span) (e : s ≡ span
       }
 
   pub turned-turn : (cur new : List Float) (b from : ℕ) (z r : Complex)
-      → Turned fs len nb f first cur b → from ≡ b * len → z ≡ zAt cur b → r ≡ lessSpan fs len f s from z → new ≡ zSet cur b r → 2 * b + 1 < length cur
-      → Turned fs len nb f first new (b + 1)
+      → Turned fs len blocks f first cur b → from ≡ b * len → z ≡ zAt cur b → r ≡ lessSpan fs len f s from z → new ≡ zSet cur b r → 2 * b + 1 < length cur
+      → Turned fs len blocks f first new (b + 1)
   unfolding lessFit
   turned-turn cur new b from z r t g q p n room =
-      let here : r ≡ lessFit fs len nb f b (zAt first b) = rw (p, g, q, t .rest b (omega arith), e) in
+      let here : r ≡ lessFit fs len blocks f b (zAt first b) = rw (p, g, q, t .rest b (omega arith), e) in
       record {
         done =
             λ j h.
@@ -91,72 +91,72 @@ module _ (fs : Float) (len nb : ℕ) (f : ElementFit) (s : Span) (e : s ≡ span
         rest = λ j h. rw n (zAt-zSet-other cur b j r (omega arith)) ∙ t .rest j (omega arith);
       }
 
-  pub turned-done : (cur : List Float) (b from : ℕ) → Turned fs len nb f first cur b → from ≡ b * len → s .hi ≤ from → (j : ℕ) → zAt cur j ≡ lessFit fs len nb f j (zAt first j)
+  pub turned-done : (cur : List Float) (b from : ℕ) → Turned fs len blocks f first cur b → from ≡ b * len → s .hi ≤ from → (j : ℕ) → zAt cur j ≡ lessFit fs len blocks f j (zAt first j)
   turned-done cur b from t g h j = go (decLt j b)
     where
-      go : Dec (j < b) → zAt cur j ≡ lessFit fs len nb f j (zAt first j)
+      go : Dec (j < b) → zAt cur j ≡ lessFit fs len blocks f j (zAt first j)
       go (yes l) = t .done j l
       go (no l) =
           let past : b ≤ j = omega arith in
           t .rest j past ∙ sym (after-span j (zAt first j) (omega (arith, mul-le-mul-right len past)))
 
--- a block that begins before the end of a span is one of the nb
-pub block-inside : (nb len b from hi : ℕ) → from ≡ b * len → from < hi → hi ≤ nb * len → (b < nb) × (from + len ≤ nb * len)
-block-inside nb len b from hi e h g = let here : b < nb = go (decLt b nb) in (here, omega (arith, mul-le-mul-right len here, suc-mul b len))
+-- a block that begins before the end of a span is one of the whole blocks
+pub block-inside : (blocks len b from hi : ℕ) → from ≡ b * len → from < hi → hi ≤ blocks * len → (b < blocks) × (from + len ≤ blocks * len)
+block-inside blocks len b from hi e h g = let here : b < blocks = go (decLt b blocks) in (here, omega (arith, mul-le-mul-right len here, suc-mul b len))
   where
-    never : nb * len ≤ b * len → ⊥
+    never : blocks * len ≤ b * len → ⊥
     never q = omega arith
 
-    go : Dec (b < nb) → b < nb
+    go : Dec (b < blocks) → b < blocks
     go (yes l) = l
-    go (no l) = let past : nb ≤ b = omega arith in absurd (never (mul-le-mul-right len past))
+    go (no l) = let past : blocks ≤ b = omega arith in absurd (never (mul-le-mul-right len past))
 
 -- ---- the fits, one after the other
-module _ (fs : Float) (len nb : ℕ) where
-  fits-more : (xs : List ElementFit) (f : ElementFit) (b : ℕ) (z : Complex) → lessFits fs len nb (xs ++ (f ∷ [])) b z ≡ lessFit fs len nb f b (lessFits fs len nb xs b z)
+module _ (fs : Float) (len blocks : ℕ) where
+  fits-more : (xs : List ElementFit) (f : ElementFit) (b : ℕ) (z : Complex) → lessFits fs len blocks (xs ++ (f ∷ [])) b z ≡ lessFit fs len blocks f b (lessFits fs len blocks xs b z)
   unfolding lessFits
   fits-more [] f b z = refl
-  fits-more (x ∷ xs) f b z = fits-more xs f b (lessFit fs len nb x b z)
+  fits-more (x ∷ xs) f b z = fits-more xs f b (lessFit fs len blocks x b z)
 
   module _ (l : List Float) (b : ℕ) (first : Complex) where
-    pub fits-none : first ≡ lessFits fs len nb (fitsIn l 0) b first
+    pub fits-none : first ≡ lessFits fs len blocks (fitsIn l 0) b first
     unfolding fitsIn firsts lessFits
     fits-none = refl
 
     pub fits-turn : (k : ℕ) (f : ElementFit) (z r : Complex)
-        → z ≡ lessFits fs len nb (fitsIn l k) b first → f ≡ fitAt l k → r ≡ lessFit fs len nb f b z → r ≡ lessFits fs len nb (fitsIn l (k + 1)) b first
+        → z ≡ lessFits fs len blocks (fitsIn l k) b first → f ≡ fitAt l k → r ≡ lessFit fs len blocks f b z → r ≡ lessFits fs len blocks (fitsIn l (k + 1)) b first
     unfolding fitsIn firsts
     fits-turn k f z r p e q = rw (add-one k, fits-more (firsts (fitAt l) k) (fitAt l k) b first, ← e, ← p) q
 
-    pub fits-done : (n k : ℕ) (z : Complex) → z ≡ lessFits fs len nb (fitsIn l k) b first → k ≤ n → n ≤ k → z ≡ lessFits fs len nb (fitsIn l n) b first
+    pub fits-done : (n k : ℕ) (z : Complex) → z ≡ lessFits fs len blocks (fitsIn l k) b first → k ≤ n → n ≤ k → z ≡ lessFits fs len blocks (fitsIn l n) b first
     fits-done n k z p h g = let all : k ≡ n = omega arith in rw all at p
 
 -- ---- the means copied, and the copy lent
-module _ (w v ys : List Float) (nb : ℕ) (e : v ≡ fill w (4 * nb) (λ i. getD w i nan) (2 * nb)) (room : 6 * nb ≤ length w) where
+module _ (w v ys : List Float) (blocks : ℕ) (e : v ≡ fill w (4 * blocks) (λ i. getD w i nan) (2 * blocks)) (room : 6 * blocks ≤ length w) where
   long : length v ≡ length w
-  long = rw e (length-fill w (4 * nb) (λ i. getD w i nan) (2 * nb))
+  long = rw e (length-fill w (4 * blocks) (λ i. getD w i nan) (2 * blocks))
 
-  copied : (i : ℕ) → i < 2 * nb → getD (midOf (4 * nb) (6 * nb - 4 * nb) v) i nan ≡ getD w i nan
+  copied : (i : ℕ) → i < 2 * blocks → getD (midOf (4 * blocks) (6 * blocks - 4 * blocks) v) i nan ≡ getD w i nan
   copied i h =
-      getD-take (6 * nb - 4 * nb) (drop (4 * nb) v) i nan (omega arith) ∙ getD-drop (4 * nb) v i nan
-      ∙ rw e (getD-fill w (4 * nb) (λ j. getD w j nan) (2 * nb) i nan h (omega arith))
+      getD-take (6 * blocks - 4 * blocks) (drop (4 * blocks) v) i nan (omega arith) ∙ getD-drop (4 * blocks) v i nan
+      ∙ rw e (getD-fill w (4 * blocks) (λ j. getD w j nan) (2 * blocks) i nan h (omega arith))
 
-  pub lessened : (fs : Float) (len : ℕ) (fits : List ElementFit) → length ys ≡ length (midOf (4 * nb) (6 * nb - 4 * nb) v)
-      → ((b : ℕ) → b < nb → zAt ys b ≡ lessFits fs len nb fits b (zAt (midOf (4 * nb) (6 * nb - 4 * nb) v) b))
-      → Lessened w (putMid (4 * nb) (6 * nb - 4 * nb) v ys) (λ b. lessFits fs len nb fits b (zAt w b)) nb
+  pub lessened : (fs : Float) (len : ℕ) (fits : List ElementFit) → length ys ≡ length (midOf (4 * blocks) (6 * blocks - 4 * blocks) v)
+      → ((b : ℕ) → b < blocks → zAt ys b ≡ lessFits fs len blocks fits b (zAt (midOf (4 * blocks) (6 * blocks - 4 * blocks) v) b))
+      → Lessened w (putMid (4 * blocks) (6 * blocks - 4 * blocks) v ys) (λ b. lessFits fs len blocks fits b (zAt w b)) blocks
   lessened fs len fits size each =
       record {
         kept =
-            take-put (4 * nb) (6 * nb - 4 * nb) v ys (omega (arith, long))
-            ∙ take-same v w (4 * nb) long (omega arith) (λ k l. rw e (getD-fill-below w (4 * nb) (λ i. getD w i nan) (2 * nb) k nan l));
-        mean = λ b h. zAt-put b h ∙ each b h ∙ ap (lessFits fs len nb fits b) (zAt-same (midOf (4 * nb) (6 * nb - 4 * nb) v) w b (λ i l. copied i (omega arith)));
+            take-put (4 * blocks) (6 * blocks - 4 * blocks) v ys (omega (arith, long))
+            ∙ take-same v w (4 * blocks) long (omega arith) (λ k l. rw e (getD-fill-below w (4 * blocks) (λ i. getD w i nan) (2 * blocks) k nan l));
+        mean = λ b h. zAt-put b h ∙ each b h ∙ ap (lessFits fs len blocks fits b) (zAt-same (midOf (4 * blocks) (6 * blocks - 4 * blocks) v) w b (λ i l. copied i (omega arith)));
       }
     where
-      many : length ys ≡ 2 * nb
+      many : length ys ≡ 2 * blocks
       many = size ∙ simp (length-take, length-drop) (omega (arith, long))
 
-      zAt-put : (b : ℕ) → b < nb → zAt (putMid (4 * nb) (6 * nb - 4 * nb) v ys) (2 * nb + b) ≡ zAt ys b
+      zAt-put : (b : ℕ) → b < blocks → zAt (putMid (4 * blocks) (6 * blocks - 4 * blocks) v ys) (2 * blocks + b) ≡ zAt ys b
       zAt-put b h =
-          let re : 2 * (2 * nb + b) ≡ 4 * nb + 2 * b = omega arith in
-          let im : 2 * (2 * nb + b) + 1 ≡ 4 * nb + (2 * b + 1) = omega arith in
-          rw (im, re, put-at (4 * nb) (6 * nb - 4 * nb) v ys (2 * b) (omega (arith, long)) (omega (arith, many)), put-at (4 * nb) (6 * nb - 4 * nb) v ys (2 * b + 1) (omega (arith, long)) (omega (arith, many)))
+          let re : 2 * (2 * blocks + b) ≡ 4 * blocks + 2 * b = omega arith in
+          let im : 2 * (2 * blocks + b) + 1 ≡ 4 * blocks + (2 * b + 1) = omega arith in
+          rw (im, re, put-at (4 * blocks) (6 * blocks - 4 * blocks) v ys (2 * b) (omega (arith, long)) (omega (arith, many)), put-at (4 * blocks) (6 * blocks - 4 * blocks) v ys (2 * b + 1) (omega (arith, long)) (omega (arith, many)))

@@ -21,15 +21,15 @@ takenFrom fs len f z a (suc n) = cSub (takenFrom fs len f z a n) (cDiv (synthAt 
 abbrev pub lessSpan : Float → ℕ → ElementFit → Span → ℕ → Complex → Complex
 lessSpan fs len f s from z = let a = max (s .lo) from in takenFrom fs len f z a (min (s .hi) (from + len) - a)
 
--- and at the samples of block b that the fit's span covers, the span cut to the nb whole blocks
+-- and at the samples of block b that the fit's span covers, the span cut to the whole blocks
 unfoldable pub lessFit : Float → ℕ → ℕ → ElementFit → ℕ → Complex → Complex
-lessFit fs len nb f b z = lessSpan fs len f (spanOf fs (nb * len) f) (b * len) z
+lessFit fs len blocks f b z = lessSpan fs len f (spanOf fs (blocks * len) f) (b * len) z
 
 -- each fit in turn
 unfoldable pub lessFits : Float → ℕ → ℕ → List ElementFit → ℕ → Complex → Complex
-lessFits fs len nb [] b z = z
-lessFits fs len nb (f ∷ fits) b z = lessFits fs len nb fits b (lessFit fs len nb f b z)
+lessFits fs len blocks [] b z = z
+lessFits fs len blocks (f ∷ fits) b z = lessFits fs len blocks fits b (lessFit fs len blocks f b z)
 
 -- what is left of the mean of block b
 abbrev pub residualMean : Float → ℕ → List ElementFit → (ℕ → Complex) → ℕ → Complex
-residualMean fs nb fits z b = lessFits fs (windowOf fs) nb fits b (z b)
+residualMean fs blocks fits z b = lessFits fs (windowOf fs) blocks fits b (z b)

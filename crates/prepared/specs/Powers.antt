@@ -15,4 +15,4 @@ blockPower z b = cNormSqr (z b)
 
 -- the powers of the blocks of class c, in order
 abbrev pub powersOf : BlockClass → (ℕ → BlockClass) → (ℕ → Complex) → ℕ → List Float
-powersOf c class z nb = picked (λ b. isClass c (class b)) (blockPower z) nb
+powersOf c class z blocks = picked (λ b. isClass c (class b)) (blockPower z) blocks

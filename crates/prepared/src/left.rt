@@ -72,15 +72,15 @@ fn less_span(
     }
 }
 
-// One fit taken off the nb means of a row. Rust: the body of the loop over the fits.
-fn less_fit(row: &mut [f64], nb: usize, f: ElementFit, fs: f64, len: usize, sine: &[f64; 1025])
+// One fit taken off the means of a row. Rust: the body of the loop over the fits.
+fn less_fit(row: &mut [f64], blocks: usize, f: ElementFit, fs: f64, len: usize, sine: &[f64; 1025])
     requires { ⌜ now sine ≡ quarterSines ⌝ }
     requires { ⌜ 0 < len ⌝ }
-    requires { ⌜ nb * len ≤ 1048576 ⌝ }
-    requires { ⌜ length (now row) ≡ 2 * nb ⌝ }
-    ensures { λ _. ⌜ ((b : ℕ) → b < nb → zAt (now (row .exit)) b ≡ lessFit fs len nb f b (zAt (now (row .entry)) b)) ⌝ }
+    requires { ⌜ blocks * len ≤ 1048576 ⌝ }
+    requires { ⌜ length (now row) ≡ 2 * blocks ⌝ }
+    ensures { λ _. ⌜ ((b : ℕ) → b < blocks → zAt (now (row .exit)) b ≡ lessFit fs len blocks f b (zAt (now (row .entry)) b)) ⌝ }
 {
-    let s = fit_span(f, fs, nb * len);
+    let s = fit_span(f, fs, blocks * len);
     let hi = s.hi;
     let mut b = s.lo / len;
     let mut from = b * len;
@@ -95,7 +95,7 @@ fn less_fit(row: &mut [f64], nb: usize, f: ElementFit, fs: f64, len: usize, sine
 // All fits of a list taken off, in order.
 fn less_fits(
     row: &mut [f64],
-    nb: usize,
+    blocks: usize,
     fits: &[f64],
     count: usize,
     fs: f64,
@@ -104,32 +104,32 @@ fn less_fits(
 )
     requires { ⌜ now sine ≡ quarterSines ⌝ }
     requires { ⌜ 0 < len ⌝ }
-    requires { ⌜ nb * len ≤ 1048576 ⌝ }
-    requires { ⌜ length (now row) ≡ 2 * nb ⌝ }
+    requires { ⌜ blocks * len ≤ 1048576 ⌝ }
+    requires { ⌜ length (now row) ≡ 2 * blocks ⌝ }
     requires { ⌜ FIT * count ≤ length (now fits) ⌝ }
-    ensures { λ _. ⌜ ((b : ℕ) → b < nb → zAt (now (row .exit)) b ≡ lessFits fs len nb (fitsIn (now (fits .entry)) count) b (zAt (now (row .entry)) b)) ⌝ }
+    ensures { λ _. ⌜ ((b : ℕ) → b < blocks → zAt (now (row .exit)) b ≡ lessFits fs len blocks (fitsIn (now (fits .entry)) count) b (zAt (now (row .entry)) b)) ⌝ }
 {
     for k in 0..count {
         let f = fit_at(fits, k);
-        less_fit(row, nb, f, fs, len, sine);
+        less_fit(row, blocks, f, fs, len, sine);
     }
 }
 
-// The nb means at the start of the work slice, copied to the numbers from 4 * nb on.
-fn copy_means(work: &mut [f64], nb: usize)
-    requires { ⌜ 6 * nb ≤ length (now work) ⌝ }
-    ensures { λ _. ⌜ now (work .exit) ≡ fill (now (work .entry)) (4 * nb) (λ i. getD (now (work .entry)) i nan) (2 * nb) ⌝ }
+// The means at the start of the work slice, copied to the numbers from 4 * blocks on.
+fn copy_means(work: &mut [f64], blocks: usize)
+    requires { ⌜ 6 * blocks ≤ length (now work) ⌝ }
+    ensures { λ _. ⌜ now (work .exit) ≡ fill (now (work .entry)) (4 * blocks) (λ i. getD (now (work .entry)) i nan) (2 * blocks) ⌝ }
 {
-    let o = 4 * nb;
-    for i in 0..2 * nb {
+    let o = 4 * blocks;
+    for i in 0..2 * blocks {
         work[o + i] = work[i];
     }
 }
 
-// What is left of the nb means at the start of the work slice, as complex numbers from number 2 * nb on.
+// What is left of the means at the start of the work slice, as complex numbers from number 2 * blocks on.
 pub fn lessen(
     work: &mut [f64],
-    nb: usize,
+    blocks: usize,
     fits: &[f64],
     count: usize,
     fs: f64,
@@ -138,13 +138,13 @@ pub fn lessen(
 )
     requires { ⌜ now sine ≡ quarterSines ⌝ }
     requires { ⌜ 0 < len ⌝ }
-    requires { ⌜ nb * len ≤ 1048576 ⌝ }
-    requires { ⌜ 6 * nb ≤ length (now work) ⌝ }
+    requires { ⌜ blocks * len ≤ 1048576 ⌝ }
+    requires { ⌜ 6 * blocks ≤ length (now work) ⌝ }
     requires { ⌜ FIT * count ≤ length (now fits) ⌝ }
-    ensures { λ _. ⌜ Lessened (now (work .entry)) (now (work .exit)) (λ b. lessFits fs len nb (fitsIn (now (fits .entry)) count) b (zAt (now (work .entry)) b)) nb ⌝ }
+    ensures { λ _. ⌜ Lessened (now (work .entry)) (now (work .exit)) (λ b. lessFits fs len blocks (fitsIn (now (fits .entry)) count) b (zAt (now (work .entry)) b)) blocks ⌝ }
 {
-    copy_means(work, nb);
-    let from = 4 * nb;
-    let past = 6 * nb;
-    less_fits(&mut work[from..past], nb, fits, count, fs, len, sine);
+    copy_means(work, blocks);
+    let from = 4 * blocks;
+    let past = 6 * blocks;
+    less_fits(&mut work[from..past], blocks, fits, count, fs, len, sine);
 }

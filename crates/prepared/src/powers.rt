@@ -10,26 +10,26 @@ ghost use Rattle.lists.specs.Those.{keep};
 ghost use Rattle.rank.specs.Select.{percentileOf};
 ghost use Rattle.prepared.specs.Inner.{classIn, powerIn, powersIn};
 
-// Rust: the `push`es of a class in residual_check, and `interior` in second_carrier_evidence. The nb means stand from
-// complex number `means` on, the numbers of their classes from `codes` on; the powers go to `out` and the numbers after
-// it. The answer is how many they are.
+// Rust: the `push`es of a class in residual_check, and `interior` in second_carrier_evidence. The blocks' means stand
+// from complex number `means` on, the numbers of their classes from `codes` on; the powers go to `out` and the numbers
+// after it. The answer is how many they are.
 pub fn gather(
     work: &mut [f64],
     means: usize,
     codes: usize,
-    nb: usize,
+    blocks: usize,
     class: BlockClass,
     out: usize,
 ) -> usize
-    requires { ⌜ 2 * (means + nb) ≤ out ⌝ }
-    requires { ⌜ codes + nb ≤ out ⌝ }
-    requires { ⌜ out + nb ≤ length (now work) ⌝ }
-    ensures { λ r. ⌜ (r ≡ countTo (classIn (now (work .entry)) codes class) nb)
-        × (now (work .exit) ≡ keep (now (work .entry)) out (classIn (now (work .entry)) codes class) (powerIn (now (work .entry)) means) nb) ⌝ }
+    requires { ⌜ 2 * (means + blocks) ≤ out ⌝ }
+    requires { ⌜ codes + blocks ≤ out ⌝ }
+    requires { ⌜ out + blocks ≤ length (now work) ⌝ }
+    ensures { λ r. ⌜ (r ≡ countTo (classIn (now (work .entry)) codes class) blocks)
+        × (now (work .exit) ≡ keep (now (work .entry)) out (classIn (now (work .entry)) codes class) (powerIn (now (work .entry)) means) blocks) ⌝ }
 {
     let code = classes::code(class);
     let mut n: usize = 0;
-    for b in 0..nb {
+    for b in 0..blocks {
         if work[codes + b] == code {
             work[out + n] = complex::get(work, means + b).norm_sqr();
             n = n + 1;
@@ -49,20 +49,20 @@ pub fn level_of(
     work: &mut [f64],
     means: usize,
     codes: usize,
-    nb: usize,
+    blocks: usize,
     class: BlockClass,
     out: usize,
     p: f64,
 ) -> Level
-    requires { ⌜ 2 * (means + nb) ≤ out ⌝ }
-    requires { ⌜ codes + nb ≤ out ⌝ }
-    requires { ⌜ out + nb ≤ length (now work) ⌝ }
-    requires { ⌜ nb ≤ 2097152 ⌝ }
-    ensures { λ r. ⌜ (r .value ≡ percentileOf (powersIn (now (work .entry)) means codes nb class) p)
-        × (r .count ≡ length (powersIn (now (work .entry)) means codes nb class))
+    requires { ⌜ 2 * (means + blocks) ≤ out ⌝ }
+    requires { ⌜ codes + blocks ≤ out ⌝ }
+    requires { ⌜ out + blocks ≤ length (now work) ⌝ }
+    requires { ⌜ blocks ≤ 2097152 ⌝ }
+    ensures { λ r. ⌜ (r .value ≡ percentileOf (powersIn (now (work .entry)) means codes blocks class) p)
+        × (r .count ≡ length (powersIn (now (work .entry)) means codes blocks class))
         × (take out (now (work .exit)) ≡ take out (now (work .entry))) ⌝ }
 {
-    let count = gather(work, means, codes, nb, class, out);
+    let count = gather(work, means, codes, blocks, class, out);
     let past = out + count;
     let value = percentile(&work[out..past], p);
     Level { value, count }

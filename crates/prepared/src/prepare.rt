@@ -36,9 +36,9 @@ pub fn prepare(
         (classOf fs (samples (now (iq .entry))) (fitsIn (now (fits .entry)) «fit_count») (elementsIn (now (elements .entry)) «element_count»)) (blocks (now (iq .entry)) (windowOf fs)) ⌝ }
 {
     let len = 8 * row::edge_step(fs);
-    let nb = row::block_means(iq, carrier / fs, len, work, sine);
-    let from = 2 * nb;
-    let past = 3 * nb;
+    let blocks = row::block_means(iq, carrier / fs, len, work, sine);
+    let from = 2 * blocks;
+    let past = 3 * blocks;
     let n = iq.len() / 2;
     classify_blocks(
         fs,
@@ -49,5 +49,5 @@ pub fn prepare(
         fit_count,
         &mut work[from..past],
     );
-    nb
+    blocks
 }

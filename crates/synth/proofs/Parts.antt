@@ -5,12 +5,12 @@ use native.Mathlib.Omega.{arith}
 use mathlib.Core.Path.{_≡_, refl, sym, ap, _∙_}
 use mathlib.Core.List.{List, [], _∷_, _++_}
 use mathlib.Core.Logic.{⊎-elim}
-use lib.ListN.{length, getD, set, take, drop, length-set}
+use lib.ListN.{length, set, take, drop, length-set}
 use lib.Seq.{length-take-le, set-append-left, getD-take, getD-drop}
 use lib.Ieee.{Float, nan}
 use borrow.Rule.Slice.PartMut.{midOf, postOf, putMid, put-same, mid-len}
 use Rattle.complex.specs.declared.value.Complex.{Complex}
-use Rattle.complex.specs.Rows.{zAt, zSet, zFill}
+use Rattle.complex.specs.Rows.{zAt, zFill}
 use Rattle.complex.proofs.RowLaws.{length-zFill, zAt-zSet-same, zAt-zSet-other}
 
 -- ---- what stands where samples were replaced

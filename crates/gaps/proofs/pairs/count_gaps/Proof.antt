@@ -15,12 +15,12 @@ use Rattle.gaps.proofs.pairs.count_gaps.Statement.{statement}
 use Rattle.gaps.proofs.pairs.count_gaps.Tie as tie
 
 abbrev Inv-loop : tie.InvT-loop
-Inv-loop work nb reference level blocks₀ hot₀ b₀ blocks hot b =
-    (b ≤ nb) × (blocks ≤ b) × (hot ≤ b) × (blocks ≡ countTo (classIn work (2 * nb) Gap) b)
-    × (hot ≡ countTo (above (classIn work (2 * nb) Gap) (zAt work) level) b)
+Inv-loop work blocks reference level gap₀ hot₀ b₀ gap hot b =
+    (b ≤ blocks) × (gap ≤ b) × (hot ≤ b) × (gap ≡ countTo (classIn work (2 * blocks) Gap) b)
+    × (hot ≡ countTo (above (classIn work (2 * blocks) Gap) (zAt work) level) b)
 
 abbrev μ-loop : tie.MeasureT-loop
-μ-loop work nb reference level blocks₀ hot₀ b₀ blocks hot b = nb - b
+μ-loop work blocks reference level gap₀ hot₀ b₀ gap hot b = blocks - b
 
 loop-holds : tie.Need-loop-holds Inv-loop μ-loop
 loop-holds c = (search needs, search needs, search needs, count-none _, count-none _)

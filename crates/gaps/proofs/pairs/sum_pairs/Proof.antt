@@ -14,11 +14,11 @@ use Rattle.gaps.proofs.pairs.sum_pairs.Statement.{statement}
 use Rattle.gaps.proofs.pairs.sum_pairs.Tie as tie
 
 abbrev Inv-loop : tie.InvT-loop
-Inv-loop work nb reference level found₀ b₀ found b =
-    (b ≤ nb) × (found ≡ pairsOf (above (classIn work (2 * nb) Gap) (zAt work) level) (zAt work) b)
+Inv-loop work blocks reference level found₀ b₀ found b =
+    (b ≤ blocks) × (found ≡ pairsOf (above (classIn work (2 * blocks) Gap) (zAt work) level) (zAt work) b)
 
 abbrev μ-loop : tie.MeasureT-loop
-μ-loop work nb reference level found₀ b₀ found b = nb - b
+μ-loop work blocks reference level found₀ b₀ found b = blocks - b
 
 loop-holds : tie.Need-loop-holds Inv-loop μ-loop
 loop-holds c = (search needs, sym (pairs-none _ _))

@@ -19,7 +19,7 @@ returns c =
     let level = zero .before .before .before in
     let side = level .before .before .before .before in
     let s = side .before .before .before .before in (
-      reference-is _ _ _ _ (s .args .nb) _ _ _ _ _ (side .side-level .ensures .1) (side .side-level .ensures .0) (level .level-of .ensures .0) (zero .or-zero .ensures) (c .before .max .ensures) (c .max2 .ensures),
+      reference-is _ _ _ _ (s .args .blocks) _ _ _ _ _ (side .side-level .ensures .1) (side .side-level .ensures .0) (level .level-of .ensures .0) (zero .or-zero .ensures) (c .before .max .ensures) (c .max2 .ensures),
       level .level-of .ensures .2 ∙ side .side-level .ensures .1,
     )
 

@@ -18,12 +18,12 @@ use Rattle.gaps.proofs.reference.gap_powers.Statement.{statement}
 use Rattle.gaps.proofs.reference.gap_powers.Tie as tie
 
 abbrev Inv-loop : tie.InvT-loop
-Inv-loop iq cyc len work₀ nb out sine n₀ b₀ work n b =
-    (b ≤ nb) × (n ≤ b) × (length work ≡ length work₀) × (n ≡ countTo (classIn work₀ (2 * nb) Gap) b)
-    × (work ≡ keep work₀ out (classIn work₀ (2 * nb) Gap) (blockPower (blockMean iq cyc len)) b)
+Inv-loop iq cyc len work₀ blocks out sine n₀ b₀ work n b =
+    (b ≤ blocks) × (n ≤ b) × (length work ≡ length work₀) × (n ≡ countTo (classIn work₀ (2 * blocks) Gap) b)
+    × (work ≡ keep work₀ out (classIn work₀ (2 * blocks) Gap) (blockPower (blockMean iq cyc len)) b)
 
 abbrev μ-loop : tie.MeasureT-loop
-μ-loop iq cyc len work₀ nb out sine n₀ b₀ work n b = nb - b
+μ-loop iq cyc len work₀ blocks out sine n₀ b₀ work n b = blocks - b
 
 loop-holds : tie.Need-loop-holds Inv-loop μ-loop
 unfolding countTo keep

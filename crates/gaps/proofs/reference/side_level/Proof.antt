@@ -1,7 +1,6 @@
 -- The powers of the second row stand behind those of the first. Assumes nothing.
-use Prim.Native.Nat.{ℕ, _*_, _≤_}
+use Prim.Native.Nat.{_≤_}
 use native.Mathlib.Omega.{arith}
-use mathlib.Core.Path.{sym, _∙_}
 use denote.Ref.{now}
 use lib.ListN.{length-take, length-drop}
 use borrow.Author.Needs.{needs}
@@ -12,7 +11,7 @@ use Rattle.gaps.proofs.reference.side_level.Statement.{statement}
 use Rattle.gaps.proofs.reference.side_level.Tie as tie
 
 -- there are not too many blocks
-small : (s : tie.Start) → s .args .nb ≤ 1048576
+small : (s : tie.Start) → s .args .blocks ≤ 1048576
 small s = let few = blocks-short (now (s .args .iq)) (s .args .len) (s .pre .0 .short) in omega arith
 
 gap-powers-requires : tie.Need-gap-powers-requires

@@ -32,7 +32,7 @@ returns : tie.Need-returns
 returns c =
     let found = c .before .before .before .before in
     let s = found .before .before .before .before .before in
-    evidence-is _ _ _ _ _ (s .args .nb) _ _ (found .find-reference .ensures .1) (found .find-reference .ensures .0) (c .evidence-with .ensures)
+    evidence-is _ _ _ _ _ (s .args .blocks) _ _ (found .find-reference .ensures .1) (found .find-reference .ensures .0) (c .evidence-with .ensures)
 
 pub evidence-spec : {M : Type 1} → statement M
 evidence-spec =

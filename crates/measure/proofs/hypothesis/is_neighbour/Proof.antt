@@ -1,5 +1,4 @@
 use borrow.Author.Needs.{needs}
-use mathlib.Core.Bool.{and-false}
 use Rattle.constants.proofs.Bits.{min-coherence-bits, min-offset-bits, max-offset-bits}
 use Rattle.measure.specs.Hypothesis.{isNeighbour}
 use Rattle.measure.proofs.hypothesis.is_neighbour.Statement.{statement}

@@ -20,12 +20,12 @@ use Rattle.measure.proofs.offset.paired_power.Statement.{statement}
 use Rattle.measure.proofs.offset.paired_power.Tie as tie
 
 abbrev Inv-loop : tie.InvT-loop
-Inv-loop iq cyc len work nb level sine sum₀ b₀ sum b =
-    (b ≤ nb)
-    × (sum ≡ sumOver (blockPower (blockMean iq cyc len)) minus-zero (picked (inPair (above (classIn work (2 * nb) Gap) (zAt work) level) nb) (λ k. k) b))
+Inv-loop iq cyc len work blocks level sine sum₀ b₀ sum b =
+    (b ≤ blocks)
+    × (sum ≡ sumOver (blockPower (blockMean iq cyc len)) minus-zero (picked (inPair (above (classIn work (2 * blocks) Gap) (zAt work) level) blocks) (λ k. k) b))
 
 abbrev μ-loop : tie.MeasureT-loop
-μ-loop iq cyc len work nb level sine sum₀ b₀ sum b = nb - b
+μ-loop iq cyc len work blocks level sine sum₀ b₀ sum b = blocks - b
 
 loop-holds : tie.Need-loop-holds Inv-loop μ-loop
 loop-holds c = (search needs, over-none _ _)

@@ -6,7 +6,7 @@ use Rattle.measure.proofs.residual.residual.Statement.{statement}
 use Rattle.measure.proofs.residual.residual.Tie as tie
 
 -- the window, and how few blocks of it there are
-wide : (c : tie.After-edge-step) → let s = c .before .before .before in Windowed (s .args .fs) (c .edge-step .result) (s .args .nb)
+wide : (c : tie.After-edge-step) → let s = c .before .before .before in Windowed (s .args .fs) (c .edge-step .result) (s .args .blocks)
 wide c = windowed _ _ _ (search needs) (c .edge-step .ensures) (search needs)
 
 mul-len : tie.Need-mul-len

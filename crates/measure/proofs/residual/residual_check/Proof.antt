@@ -1,5 +1,4 @@
 use native.Mathlib.Omega.{arith}
-use mathlib.Core.Path.{_∙_}
 use borrow.Author.Needs.{needs}
 use Rattle.measure.proofs.Figures.{blocks-inside, check-is}
 use Rattle.measure.proofs.residual.residual_check.Statement.{statement}

@@ -11,10 +11,10 @@ use Rattle.prepared.proofs.left.copy_means.Statement.{statement}
 use Rattle.prepared.proofs.left.copy_means.Tie as tie
 
 abbrev Inv-loop : tie.InvT-loop
-Inv-loop work₀ nb o i₀ i-end work i = (i ≤ i-end) × (length work ≡ length work₀) × (work ≡ fill work₀ o (λ j. getD work₀ j nan) i)
+Inv-loop work₀ blocks o i₀ i-end work i = (i ≤ i-end) × (length work ≡ length work₀) × (work ≡ fill work₀ o (λ j. getD work₀ j nan) i)
 
 abbrev μ-loop : tie.MeasureT-loop
-μ-loop work₀ nb o i₀ i-end work i = i-end - i
+μ-loop work₀ blocks o i₀ i-end work i = i-end - i
 
 loop-again : tie.Need-loop-again Inv-loop μ-loop
 loop-again c =

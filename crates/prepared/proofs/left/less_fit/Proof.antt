@@ -12,17 +12,17 @@ use Rattle.prepared.proofs.left.less_fit.Statement.{statement}
 use Rattle.prepared.proofs.left.less_fit.Tie as tie
 
 abbrev Inv-loop : tie.InvT-loop
-Inv-loop row₀ nb f fs len sine s hi b₀ from₀ row b from =
-    (hi ≡ s .hi) × (s .hi ≤ nb * len) × (s ≡ spanOf fs (nb * len) f) × (from ≡ b * len) × (length row ≡ length row₀) × Turned fs len nb f row₀ row b
+Inv-loop row₀ blocks f fs len sine s hi b₀ from₀ row b from =
+    (hi ≡ s .hi) × (s .hi ≤ blocks * len) × (s ≡ spanOf fs (blocks * len) f) × (from ≡ b * len) × (length row ≡ length row₀) × Turned fs len blocks f row₀ row b
 
 abbrev μ-loop : tie.MeasureT-loop
-μ-loop row₀ nb f fs len sine s hi b₀ from₀ row b from = hi - from
+μ-loop row₀ blocks f fs len sine s hi b₀ from₀ row b from = hi - from
 
--- in a turn: block b is one of the nb
+-- in a turn: block b is there
 inside : (c : tie.In-loop Inv-loop μ-loop)
     → let args = c .before .before .before .before .before .args in
     let at = c .before .loop in
-    (at .b < args .nb) × (at .from + args .len ≤ args .nb * args .len) × (2 * at .b + 1 < length (at .row))
+    (at .b < args .blocks) × (at .from + args .len ≤ args .blocks * args .len) × (2 * at .b + 1 < length (at .row))
 inside c =
     let inv = c .before .loop .inv in
     let here = block-inside _ _ _ _ _ (inv .3) (c .loop-test .taken) (inv .1) in
@@ -32,7 +32,7 @@ mul-from : tie.Need-mul-from Inv-loop μ-loop
 mul-from c =
     let s = c .before .fit-span .result in
     let low : s .lo ≤ s .hi = rw (c .before .fit-span .ensures) (span-ordered _ _ _) in
-    let high : s .hi ≤ c .before .before .before .args .nb * c .before .before .before .args .len = rw (c .before .fit-span .ensures) (span-inside _ _ _) in
+    let high : s .hi ≤ c .before .before .before .args .blocks * c .before .before .before .args .len = rw (c .before .fit-span .ensures) (span-inside _ _ _) in
     omega (arith, div-mul-le-self (s .lo) (c .before .before .before .args .len))
 
 loop-holds : tie.Need-loop-holds Inv-loop μ-loop

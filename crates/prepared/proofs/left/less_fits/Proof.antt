@@ -1,6 +1,5 @@
 -- The invariant: the first k fits are taken off each mean.
 use Prim.Native.Nat.{ℕ, _-_, _≤_, _<_}
-use native.Mathlib.Omega.{arith}
 use mathlib.Core.Path.{_≡_}
 use lib.ListN.{length}
 use borrow.Author.Needs.{needs}
@@ -12,11 +11,11 @@ use Rattle.prepared.proofs.left.less_fits.Statement.{statement}
 use Rattle.prepared.proofs.left.less_fits.Tie as tie
 
 abbrev Inv-loop : tie.InvT-loop
-Inv-loop row₀ nb fits count fs len sine k₀ row k =
-    (k ≤ count) × (length row ≡ length row₀) × ((b : ℕ) → b < nb → zAt row b ≡ lessFits fs len nb (fitsIn fits k) b (zAt row₀ b))
+Inv-loop row₀ blocks fits count fs len sine k₀ row k =
+    (k ≤ count) × (length row ≡ length row₀) × ((b : ℕ) → b < blocks → zAt row b ≡ lessFits fs len blocks (fitsIn fits k) b (zAt row₀ b))
 
 abbrev μ-loop : tie.MeasureT-loop
-μ-loop row₀ nb fits count fs len sine k₀ row k = count - k
+μ-loop row₀ blocks fits count fs len sine k₀ row k = count - k
 
 loop-holds : tie.Need-loop-holds Inv-loop μ-loop
 loop-holds c = (search needs, search needs, λ b h. fits-none _ _ _ _ _ _)

@@ -13,12 +13,12 @@ use Rattle.prepared.proofs.powers.gather.Statement.{statement}
 use Rattle.prepared.proofs.powers.gather.Tie as tie
 
 abbrev Inv-loop : tie.InvT-loop
-Inv-loop work₀ means codes nb out code n₀ b₀ work n b =
-    (b ≤ nb) × (n ≤ b) × (length work ≡ length work₀) × (n ≡ countTo (hasCode work₀ codes code) b)
+Inv-loop work₀ means codes blocks out code n₀ b₀ work n b =
+    (b ≤ blocks) × (n ≤ b) × (length work ≡ length work₀) × (n ≡ countTo (hasCode work₀ codes code) b)
     × (work ≡ keep work₀ out (hasCode work₀ codes code) (powerIn work₀ means) b)
 
 abbrev μ-loop : tie.MeasureT-loop
-μ-loop work₀ means codes nb out code n₀ b₀ work n b = nb - b
+μ-loop work₀ means codes blocks out code n₀ b₀ work n b = blocks - b
 
 loop-holds : tie.Need-loop-holds Inv-loop μ-loop
 unfolding countTo keep

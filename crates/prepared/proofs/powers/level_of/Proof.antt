@@ -7,7 +7,7 @@ use Rattle.prepared.proofs.powers.level_of.Statement.{statement}
 use Rattle.prepared.proofs.powers.level_of.Tie as tie
 
 -- the powers are no more than the blocks
-few : (c : tie.After-gather) → c .gather .result ≤ c .before .before .before .args .nb
+few : (c : tie.After-gather) → c .gather .result ≤ c .before .before .before .args .blocks
 few c = gathered-few _ _ _ (c .gather .ensures .0)
 
 add-past : tie.Need-add-past
