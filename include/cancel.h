@@ -39,9 +39,11 @@
  *   cancel_subtract                                         asks 1 2 3 7
  *   cancel_classify                                         asks nothing and returns 0
  *
- * On a refusal nothing lent is written, figures included. On a 0 all figures are written, and the first places of the
- * lists to be filled, as many as the figures count; what the places after them and the work slice then hold is not
- * said. Recordings and lists that are lent as const are never written, and the buffer only as its call says.
+ * On a refusal nothing lent is written, figures included: proved is that every number lent is the one it was, in a
+ * logic that has one NaN, and that a NaN keeps its bits as well is not proved but compared. On a 0 all figures are
+ * written, and the first places of the lists to be filled, as many as the figures count; what the places after them and
+ * the work slice then hold is not said. Recordings and lists that are lent as const are never written, and the buffer
+ * only as its call says.
  *
  * cancel_blocks and the functions of numbers at the end refuse nothing and return what they compute.
  *
