@@ -14,11 +14,12 @@
  * CANCEL_ROW_LEN, CANCEL_CLASSES_LEN and CANCEL_WORK_LEN say of B, or longer.
  *
  * Records. An element is 4 numbers of its list and a fit 8, in the order of struct cancel_element and struct
- * cancel_fit. A place of a list is one record; numbers after the last whole place are no place and are never written.
- * An amplitude row and a list of classes have one number a place.
+ * cancel_fit. These have no padding, so an array of them may be lent as its doubles, by a cast of its pointer; its
+ * length is still counted in doubles. A place of a list is one record; numbers after the last whole place are no place
+ * and are never written. An amplitude row and a list of classes have one number a place.
  *
  * Answers. The calls below return 0 or the number of a refusal: the first of these questions that the call asks and
- * that has the answer no.
+ * that has the answer no. cancel_reason has a sentence for each.
  *
  *   1  fs is a number from 2000 to 192000, ends included
  *   2  the float count is even and at most 2097152; cancel_block_classes is told it as iq_len and lent no recording
@@ -45,7 +46,7 @@
  * the work slice then hold is not said. Recordings and lists that are lent as const are never written, and the buffer
  * only as its call says.
  *
- * cancel_blocks and the functions of numbers at the end refuse nothing and return what they compute.
+ * cancel_version, cancel_blocks and the functions of numbers at the end refuse nothing and return what they compute.
  *
  * Calls are re-entrant: they keep nothing between them, so several threads may make them at once, if nothing that one
  * of them writes is lent to another. A call takes less than 32 KiB of stack, however long the recording: there is no
@@ -64,7 +65,14 @@ extern "C" {
 
 /* The interface's version. MAJOR grows when something that is here changes, MINOR when something is added. */
 #define CANCEL_VERSION_MAJOR 1
-#define CANCEL_VERSION_MINOR 1
+#define CANCEL_VERSION_MINOR 2
+#define CANCEL_VERSION (CANCEL_VERSION_MAJOR * 1000 + CANCEL_VERSION_MINOR)
+
+/*
+ * The same number of the library that is linked. It has all that is in this header if cancel_version() / 1000 is
+ * CANCEL_VERSION_MAJOR and cancel_version() is at least CANCEL_VERSION.
+ */
+uint64_t cancel_version(void);
 
 /* Numbers in a record, and in the figures of each call. */
 #define CANCEL_ELEMENT_NUMBERS 4
@@ -103,6 +111,11 @@ struct cancel_fit {
     double ref_sample;
 };
 
+/* An array whose length is negative, so an error here, where a record has padding. */
+typedef char cancel_element_as_numbers
+    [sizeof(struct cancel_element) == CANCEL_ELEMENT_NUMBERS * sizeof(double) ? 1 : -1];
+typedef char cancel_fit_as_numbers[sizeof(struct cancel_fit) == CANCEL_FIT_NUMBERS * sizeof(double) ? 1 : -1];
+
 /* What a call returns. */
 enum cancel_refusal {
     CANCEL_ACCEPTED = 0,
@@ -114,6 +127,39 @@ enum cancel_refusal {
     CANCEL_REFUSED_WORK = 6,
     CANCEL_REFUSED_GIVEN = 7
 };
+
+/* What is wrong, and what to do. */
+static inline const char *cancel_reason(uint64_t refusal)
+{
+    switch (refusal) {
+    case CANCEL_ACCEPTED:
+        return "accepted";
+    case CANCEL_REFUSED_RATE:
+        return "the rate is not a number from 2000 to 192000 samples a second: "
+               "give the one that was recorded at, or resample";
+    case CANCEL_REFUSED_COUNT:
+        return "the recording is not a whole number of samples, at most 1048576: "
+               "lend whole samples, and a longer recording in pieces";
+    case CANCEL_REFUSED_SAMPLE:
+        return "a sample is infinite or not a number: "
+               "look at what recorded it, for such a number is no measurement";
+    case CANCEL_REFUSED_CARRIER:
+        return "the hint or carrier is not a finite number of size at most half the rate: "
+               "give it in Hz from the recording's centre";
+    case CANCEL_REFUSED_PLACES:
+        return "a list to be filled has too few places: "
+               "make room for a recording of this length";
+    case CANCEL_REFUSED_WORK:
+        return "the work slice has too few numbers: "
+               "make room for a recording of this length";
+    case CANCEL_REFUSED_GIVEN:
+        return "a given count exceeds its list, or a given number is not finite, too large or no position: "
+               "hand over elements and fits as a call answered them";
+    default:
+        return "a refusal that is not known here: "
+               "take the header and the library of one release";
+    }
+}
 
 /* A hypothesis as a figure has it. TWO_SIGNAL_CW alone has an offset. */
 enum cancel_hypothesis {
@@ -320,7 +366,9 @@ uint64_t cancel_run(float *buf, size_t buf_len, double fs, double hint_hz,
                     double *elements, size_t elements_len, double *fits, size_t fits_len,
                     double *work, size_t work_len, double *figures);
 
-/* The arithmetic that the calls are made of, open for tests. */
+/* The arithmetic that the calls are made of, open for tests. Every number may be handed in. */
+
+/* Sine and cosine of x radians, where |x| <= 7. Both are 0 of all else: larger numbers, infinities, NaN. */
 double cancel_sin(double x);
 double cancel_cos(double x);
 /*
@@ -328,9 +376,20 @@ double cancel_cos(double x);
  * Returns how many. A single cancel_sin or cancel_cos makes its table anew; here it is made once for all angles.
  */
 size_t cancel_cos_sin(const double *angles, size_t angles_len, double *out, size_t out_len);
+/*
+ * The angle of re + im i in radians, negative where im is: 0 where both are zero, PI where re is negative and im a zero
+ * of either sign. Of one infinite part it is the angle of that part's axis. It is NaN of a NaN and of two infinities.
+ */
 double cancel_arg(double re, double im);
+/*
+ * The square root of re * re + im * im, every operation rounded: infinite where a square or their sum is too large for
+ * a double (a part of some 1.34e154), 0 where both squares are too small for one (below some 1.57e-162). An infinite
+ * part gives infinity; a NaN gives NaN, beside an infinity too.
+ */
 double cancel_norm(double re, double im);
+/* The logarithm to base 10: -infinity of both zeros, infinity of infinity, NaN of NaN and of what is below zero. */
 double cancel_log10(double y);
+/* The float nearest to x, of two the even one; an infinity where x is too large for one, and a NaN of a NaN. */
 float cancel_narrow(double x);
 
 #ifdef __cplusplus

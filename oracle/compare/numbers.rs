@@ -1,7 +1,8 @@
-//! The functions of numbers: sin, cos, arg, norm, log10, narrow, and the count of blocks.
+//! The functions of numbers: sin, cos, arg, norm, log10, narrow, the count of blocks, and the version.
 
 use crate::ask::{Asker, Compared, Difference};
 use crate::library;
+use oracle::header;
 use oracle::lent::{Bits, Lent, Zone};
 use oracle::questions;
 use oracle::random::Random;
@@ -56,6 +57,7 @@ macro_rules! same {
 impl Asker {
     /// All special numbers and their neighbours.
     pub fn special_numbers(&mut self) -> Compared {
+        same!(self, header::version())?;
         for a in SPECIAL {
             for x in [a, a.next_up(), a.next_down()] {
                 self.of_one(x)?;
@@ -155,7 +157,7 @@ impl Asker {
     }
 }
 
-/// What a function answers: a float, where all NaNs are one and both zeros are one, or a count.
+/// What a function answers: a float, where all NaNs are one and both zeros are one, or a whole number.
 trait Number: Copy + std::fmt::Debug {
     fn same_number(self, other: Self) -> bool;
 }
@@ -174,6 +176,12 @@ impl Number for f32 {
 
 impl Number for usize {
     fn same_number(self, other: usize) -> bool {
+        self == other
+    }
+}
+
+impl Number for u64 {
+    fn same_number(self, other: u64) -> bool {
         self == other
     }
 }

@@ -5,6 +5,7 @@ use crate::ask::{Compared, Difference};
 use crate::tally::Tally;
 use oracle::answers::Answer;
 use oracle::calls::call;
+use oracle::header;
 use oracle::lent::Bits;
 use oracle::noes;
 use oracle::random::Random;
@@ -57,9 +58,6 @@ const NAMES: [&str; 28] = [
     "hypothesis_offset_hz",
     "buffer",
 ];
-
-/// A part of what is said on standard error where a question is answered with no.
-const REASONS: [&str; 4] = ["the rate is not", "half a sample", "a sample is", "the hint is not"];
 
 impl Receiver {
     pub fn new(program: &str) -> Receiver {
@@ -165,13 +163,14 @@ fn status(output: &Output, expected: i32) -> Result<(), String> {
     Err(format!("{}, not {expected}: {}", output.status, String::from_utf8_lossy(&output.stderr).trim()))
 }
 
-/// Nothing printed and nothing written; the number and its words on standard error.
+/// Nothing printed and nothing written; the number and the header's words for it on standard error.
 fn refused(number: u64, output: &Output, residual: bool) -> Result<(), String> {
     status(output, 1)?;
     let said = String::from_utf8_lossy(&output.stderr);
-    let expected = format!("receiver: refused by question {number}: {}", REASONS[number as usize - 1]);
-    if !said.starts_with(&expected) || said.lines().count() != 1 {
-        return Err(format!("says {said:?}, and {expected:?}.. is expected"));
+    let reason = header::reason(number).ok_or("the header has no reason for it")?;
+    let expected = format!("receiver: refused by question {number}: {reason}\n");
+    if said != expected {
+        return Err(format!("says {said:?}, and {expected:?} is expected"));
     }
     if residual || !output.stdout.is_empty() {
         return Err("prints or writes something on a refusal".into());

@@ -31,6 +31,7 @@ macro_rules! each_call {
 macro_rules! each_function {
     ($then:ident) => {
         $then! {
+            "cancel_version" version() -> u64;
             "cancel_blocks" blocks(iq_len: usize, fs: f64) -> usize;
             "cancel_sin" sin(x: f64) -> f64;
             "cancel_cos" cos(x: f64) -> f64;

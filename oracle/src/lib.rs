@@ -7,6 +7,7 @@ pub mod cases;
 pub mod crowded;
 pub mod given;
 pub mod handed;
+pub mod header;
 pub mod keydowns;
 pub mod lent;
 pub mod limits;

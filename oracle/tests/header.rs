@@ -2,28 +2,21 @@
 //! many figures. A call that the header does not have yet is named.
 
 use oracle::calls::{call, CALLS, FUNCTIONS};
-
-fn header() -> String {
-    std::fs::read_to_string(concat!(env!("CARGO_MANIFEST_DIR"), "/../include/cancel.h")).unwrap()
-}
+use oracle::header::{defined, reason, statements};
 
 /// Result, name and parameter types.
 type Prototype = (String, String, Vec<String>);
 
 /// Every prototype of the header.
 fn prototypes() -> Vec<Prototype> {
-    let header = header();
-    let commented = header.split("/*").enumerate();
-    let code: String =
-        commented.map(|(i, part)| if i == 0 { part } else { part.split("*/").nth(1).unwrap_or("") }).collect();
-    let code: String = code.lines().filter(|l| !l.starts_with('#') && !l.starts_with("extern")).collect();
-    code.split(';').filter_map(prototype).collect()
+    statements().iter().filter(|s| !s.starts_with("typedef")).filter_map(|s| prototype(s)).collect()
 }
 
 fn prototype(statement: &str) -> Option<Prototype> {
     let (before, inside) = statement.trim().split_once('(')?;
     let (result, name) = before.rsplit_once(' ')?;
-    let parameters = inside.trim_end_matches(')').split(',').map(kind).collect();
+    let inside = inside.trim_end_matches(')');
+    let parameters = if inside == "void" { Vec::new() } else { inside.split(',').map(kind).collect() };
     Some((result.to_string(), name.to_string(), parameters))
 }
 
@@ -40,6 +33,7 @@ fn in_c(kind: &str) -> String {
     let c = match &kind[..] {
         "f64" => "double",
         "f32" => "float",
+        "u64" => "uint64_t",
         "usize" => "size_t",
         "*constf64" => "const double *",
         "*mutf64" => "double *",
@@ -73,7 +67,6 @@ fn as_declared() {
 /// The figures of each call, as the header counts them.
 #[test]
 fn figures() {
-    let header = header();
     for (constant, name) in [
         ("CANCEL_FIND_FIGURES", "cancel_find_elements"),
         ("CANCEL_FIT_FIGURES", "cancel_fit_elements"),
@@ -85,9 +78,30 @@ fn figures() {
         ("CANCEL_ROW_FIGURES", "cancel_amplitude_row"),
         ("CANCEL_CLASSES_FIGURES", "cancel_block_classes"),
     ] {
-        match header.lines().find_map(|l| l.strip_prefix(&format!("#define {constant} "))) {
-            Some(n) => assert_eq!(n.trim().parse(), Ok(call(name).figures), "{constant}"),
-            None => assert!(!header.contains(&format!("{name}(")), "{name} is in include/cancel.h without {constant}"),
-        }
+        assert_eq!(defined(constant), Some(call(name).figures as u64), "{constant}");
     }
+}
+
+/// The proved version of crates/capi is the header's.
+#[test]
+fn version() {
+    let spec = std::fs::read_to_string(concat!(env!("CARGO_MANIFEST_DIR"), "/../crates/capi/specs/Version.antt"));
+    let spec = spec.unwrap();
+    for name in ["MAJOR", "MINOR"] {
+        let said = spec.lines().find_map(|l| l.strip_prefix(name)?.strip_prefix(" = ")?.parse::<u64>().ok());
+        assert!(said.is_some(), "no {name} in specs/Version.antt");
+        assert_eq!(said, defined(&format!("CANCEL_VERSION_{name}")), "{name}");
+    }
+}
+
+/// Each refusal that the oracle gives has a reason of its own: what is wrong, a colon, what to do.
+#[test]
+fn reasons() {
+    let reasons: Vec<String> =
+        (1..=7).map(|number| reason(number).unwrap_or_else(|| panic!("none for {number}"))).collect();
+    for (i, said) in reasons.iter().enumerate() {
+        assert!(said.split_once(": ").is_some_and(|(wrong, to_do)| wrong.len() > 20 && to_do.len() > 20), "{said}");
+        assert!(!reasons[..i].contains(said), "{said}: twice");
+    }
+    assert_eq!((reason(0), reason(8)), (None, None));
 }

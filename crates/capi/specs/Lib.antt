@@ -5,3 +5,4 @@ pub mod Measures
 pub mod Removal
 pub mod Rows
 pub mod Running
+pub mod Version

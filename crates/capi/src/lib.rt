@@ -7,3 +7,4 @@ pub mod measures;
 pub mod removal;
 pub mod rows;
 pub mod running;
+pub mod version;

@@ -79,26 +79,6 @@ static const char *hypothesis_name(double number)
     }
 }
 
-static const char *reason(uint64_t refusal)
-{
-    switch (refusal) {
-    case CANCEL_REFUSED_RATE:
-        return "the rate is not a number from 2000 to 192000 samples a second";
-    case CANCEL_REFUSED_COUNT:
-        return "half a sample is left over, or there are more than 2^20 samples";
-    case CANCEL_REFUSED_SAMPLE:
-        return "a sample is infinite or not a number";
-    case CANCEL_REFUSED_CARRIER:
-        return "the hint is not a number of size at most half the rate";
-    case CANCEL_REFUSED_PLACES:
-        return "a list has too few places";
-    case CANCEL_REFUSED_WORK:
-        return "the work slice is too short";
-    default:
-        return "a given number is out of range";
-    }
-}
-
 static int failed(const char *what, const char *why)
 {
     fprintf(stderr, "receiver: %s: %s\n", what, why);
@@ -215,7 +195,7 @@ static int run(struct floats recording, double rate, double hint)
         if (refusal == CANCEL_ACCEPTED) {
             print_figures(figures);
         } else {
-            fprintf(stderr, "receiver: refused by question %d: %s\n", (int)refusal, reason(refusal));
+            fprintf(stderr, "receiver: refused by question %d: %s\n", (int)refusal, cancel_reason(refusal));
             status = REFUSED;
         }
     }
