@@ -38,7 +38,7 @@
  *   cancel_block_classes                                    asks 1 2 5 7
  *   cancel_residual_check, cancel_second_carrier_evidence   asks 1 2 3 6 7
  *   cancel_subtract                                         asks 1 2 3 7
- *   cancel_classify                                         asks nothing and returns 0
+ *   cancel_classify, cancel_clean                           asks nothing and returns 0
  *
  * On a refusal nothing lent is written, figures included: proved is that every number lent is the one it was, in a
  * logic that has one NaN, and that a NaN keeps its bits as well is not proved but compared. On a 0 all figures are
@@ -85,6 +85,7 @@ uint64_t cancel_version(void);
 #define CANCEL_RESIDUAL_FIGURES 5
 #define CANCEL_EVIDENCE_FIGURES 5
 #define CANCEL_CLASSIFY_FIGURES 2
+#define CANCEL_CLEAN_FIGURES 1
 #define CANCEL_RUN_FIGURES 28
 
 /* The numbers that the lists to be filled and the work slice need where B blocks are counted. Each can be 0. */
@@ -313,6 +314,18 @@ enum cancel_classify_figure {
  */
 uint64_t cancel_classify(uint64_t gap_blocks, double hot_fraction, uint64_t present, double offset_hz,
                          double coherence, double *figures);
+
+/* The figure of cancel_clean: 0 or 1. */
+enum cancel_clean_figure {
+    CANCEL_CLEAN_CLEAN
+};
+
+/*
+ * Whether a residual check is clean: its edge ratio is at most -7 dB and its interior ratio at most -10 dB. check is a
+ * pointer to the five figures of cancel_residual_check, in their order. Of these only the two ratios count; the counts
+ * of blocks are not read. A NaN is not clean, -infinity is.
+ */
+uint64_t cancel_clean(const double *check, double *figures);
 
 /*
  * Takes a given estimate off the recording in buf: each fit in order, on the samples that its span covers. All other

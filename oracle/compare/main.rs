@@ -183,7 +183,8 @@ fn case(asker: &mut Asker, seed: u64, what: &mut String) -> Compared {
     }
     *what = "numbers".into();
     asker.numbers(200)?;
-    limits::hypotheses(20, &mut r, &mut |scene| asker.all(scene))
+    limits::hypotheses(20, &mut r, &mut |scene| asker.all(scene))?;
+    limits::checks(20, &mut r, &mut |scene| asker.all(scene))
 }
 
 /// The scene with what a run left, and its own estimate.

@@ -69,6 +69,9 @@ macro_rules! called {
             ($($v,)* $h.evidence.gap_blocks, $h.evidence.hot_fraction, $h.evidence.present,
                 $h.evidence.offset_hz, $h.evidence.coherence))
     };
+    ($name:literal $h:ident (check $($rest:ident)*) ($($k:ty),*) ($($v:expr),*)) => {
+        called!($name $h ($($rest)*) ($($k,)* *const f64) ($($v,)* $h.check.pointer()))
+    };
 }
 
 macro_rules! calls {

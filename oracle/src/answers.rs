@@ -170,6 +170,23 @@ pub fn classify(s: &Scene) -> Answer {
     }
 }
 
+pub fn clean(s: &Scene) -> Answer {
+    let [edge, interior, edge_blocks, interior_blocks, gap_blocks] = s.check;
+    let clean = ResidualCheck {
+        edge_over_neighbour_db: edge,
+        interior_over_neighbour_db: interior,
+        edge_blocks: edge_blocks as usize,
+        interior_blocks: interior_blocks as usize,
+        gap_blocks: gap_blocks as usize,
+    }
+    .clean();
+    Answer {
+        figures: vec![clean as u8 as f64],
+        kinds: kinds(&[(clean, "clean"), (!clean, "not clean")]),
+        ..Answer::default()
+    }
+}
+
 fn hypothesis_figures(h: &Hypothesis) -> [f64; 2] {
     match h {
         Hypothesis::OneSignal => [0.0, 0.0],

@@ -6,7 +6,7 @@ use crate::questions::{self as ask, first_no, Question};
 use crate::records::{ELEMENT, FIT};
 use crate::scene::Scene;
 
-/// Every call that is handed slices or evidence: its name, the oracle's answer to it, what it is handed in the order of
+/// Every call that is handed slices, evidence or a check: its name, the oracle's answer to it, what it is handed in the order of
 /// its C parameters (`Slot` says what each is), and how many figures it answers.
 #[macro_export]
 macro_rules! each_call {
@@ -22,6 +22,7 @@ macro_rules! each_call {
             "cancel_run" run(buf fs hint elements fits work figures) 28;
             "cancel_amplitude_row" amplitude_row(iq fs hint row work figures) 3;
             "cancel_block_classes" block_classes(iq_len fs estimate classes figures) 5;
+            "cancel_clean" clean(check figures) 1;
         }
     };
 }
@@ -73,6 +74,8 @@ pub enum Slot {
     classes,
     /// The figures of an evidence.
     evidence,
+    /// The figures of a residual check, in a lent array of just so many.
+    check,
     work,
     /// The lent array of figures.
     figures,
@@ -202,6 +205,7 @@ impl Slot {
                 &["double", "double", "const double *", "size_t", "size_t", "const double *", "size_t", "size_t"]
             }
             Slot::evidence => &["uint64_t", "double", "uint64_t", "double", "double"],
+            Slot::check => &["const double *"],
             Slot::figures => &["double *"],
         }
     }

@@ -28,6 +28,7 @@ pub struct Handed {
     pub given_fits: Lent<f64>,
     pub fit_count: usize,
     pub evidence: Evidence,
+    pub check: Lent<f64>,
 }
 
 impl Handed {
@@ -38,6 +39,7 @@ impl Handed {
         let recording: &[f32] = if handed(&[Slot::iq, Slot::buf]) { &s.recording.iq } else { &[] };
         let elements: &[f64] = if handed(&[Slot::given, Slot::estimate]) { &s.given.elements } else { &[] };
         let fits: &[f64] = if handed(&[Slot::estimate]) { &s.given.fits } else { &[] };
+        let check: &[f64] = if handed(&[Slot::check]) { &s.check } else { &[] };
         Handed {
             recording: Lent::holding("recording", recording, r),
             iq_len: s.iq_len(),
@@ -57,10 +59,11 @@ impl Handed {
             given_fits: Lent::holding("given fits", fits, r),
             fit_count: s.given.fit_count,
             evidence: s.evidence,
+            check: Lent::holding("check", check, r),
         }
     }
 
-    fn zones(&self) -> [&dyn Zone; 10] {
+    fn zones(&self) -> [&dyn Zone; 11] {
         [
             &self.recording,
             &self.elements,
@@ -72,6 +75,7 @@ impl Handed {
             &self.figures,
             &self.given_elements,
             &self.given_fits,
+            &self.check,
         ]
     }
 
@@ -88,6 +92,7 @@ impl Handed {
         self.zones().iter().try_for_each(|zone| zone.guarded())?;
         self.given_elements.untouched("though only read")?;
         self.given_fits.untouched("though only read")?;
+        self.check.untouched("though only read")?;
         self.figures.holds(&answer.figures)?;
         self.elements.holds(&answer.elements)?;
         self.elements.keeps_rest(ELEMENT)?;

@@ -1,9 +1,12 @@
 //! The limits, compared in every run: small recordings around every window, every change of step, each question's edge,
-//! the largest counts, hard estimates, samples of every size, evidence at every limit of a hypothesis, runs about each
-//! condition; and recordings of 2^20 samples. Each scene is handed to `ask` in turn, and the first error ends it.
+//! the largest counts, hard estimates, samples of every size, evidence at every limit of a hypothesis, checks about both
+//! limits of clean, runs about each condition; and recordings of 2^20 samples. Each scene is handed to `ask` in turn, and
+//! the first error ends it.
 
 use crate::by_stand_ins::way_in::edge_window;
-use crate::by_stand_ins::{MAX_CARRIER_STEP_HZ, MIN_ELEMENTS};
+use crate::by_stand_ins::{
+    CLEAN_EDGE_OVER_NEIGHBOUR_DB, CLEAN_INTERIOR_OVER_NEIGHBOUR_DB, MAX_CARRIER_STEP_HZ, MIN_ELEMENTS,
+};
 use crate::calls::call;
 use crate::questions::MOST_FLOATS;
 use crate::random::Random;
@@ -22,9 +25,10 @@ pub type Limit<E> = (&'static str, fn(&mut Random, Ask<E>) -> Result<(), E>);
 pub const LONGEST: usize = 1 << 20;
 
 /// All that are cheap.
-pub fn limits<E>() -> [Limit<E>; 14] {
+pub fn limits<E>() -> [Limit<E>; 15] {
     [
         ("hypotheses at their limits", |r, ask| hypotheses(4_000, r, ask)),
+        ("checks at their limits", |r, ask| checks(2_000, r, ask)),
         ("n around every window", windows),
         ("rates around every change of step", changes_of_step),
         ("edge table", edge_table),
@@ -297,6 +301,28 @@ pub fn hypotheses<E>(times: usize, r: &mut Random, ask: Ask<E>) -> Result<(), E>
             coherence: about(r, &[0.8, 0.9, 1.0, f64::NAN, f64::INFINITY, 0.0]),
         };
         scene.recording.what = format!("{:?}", scene.evidence);
+        ask(&scene)?;
+    }
+    Ok(())
+}
+
+/// Checks about both limits of clean: each, one bit to either side, NaN, infinities; with counts of any kind.
+pub fn checks<E>(times: usize, r: &mut Random, ask: Ask<E>) -> Result<(), E> {
+    let limits = [CLEAN_EDGE_OVER_NEIGHBOUR_DB, CLEAN_INTERIOR_OVER_NEIGHBOUR_DB];
+    let others = [f64::NAN, f64::INFINITY, f64::NEG_INFINITY, 0.0, -0.0, 7.0, 10.0, -1e9, f64::MIN_POSITIVE];
+    let mut scene = Scene { only: &["cancel_clean"], ..Scene::default() };
+    for _ in 0..times {
+        for ratio in 0..2 {
+            scene.check[ratio] = match r.whole(0, 3) {
+                0 => r.pick(&others),
+                1 => r.about(limits[1 - ratio]),
+                _ => r.about(limits[ratio]),
+            };
+        }
+        for count in 2..5 {
+            scene.check[count] = r.pick(&[0.0, 1.0, 131_072.0, 0.5, -3.0, f64::NAN, f64::INFINITY]);
+        }
+        scene.recording.what = format!("check {:?}", scene.check);
         ask(&scene)?;
     }
     Ok(())

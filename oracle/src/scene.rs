@@ -71,6 +71,8 @@ pub struct Scene {
     pub recording: Recording,
     pub given: Given,
     pub evidence: Evidence,
+    /// The figures of a residual check, to be handed in.
+    pub check: [f64; 5],
     /// Lengths of the lists to be filled, of the list with a place for each given element, and of the work slice.
     pub elements_len: usize,
     pub fits_len: usize,

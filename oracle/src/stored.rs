@@ -194,9 +194,9 @@ fn evidence(e: &Evidence) -> Vec<u32> {
         .collect()
 }
 
-/// Does the program replay this call? Those that fill lists of single numbers came after it.
+/// Does the program replay this call? Those that fill lists of single numbers, and clean, came after it.
 pub fn is_stored(call: &Call) -> bool {
-    !call.is_handed(Slot::row) && !call.is_handed(Slot::classes)
+    ![Slot::row, Slot::classes, Slot::check].iter().any(|&slot| call.is_handed(slot))
 }
 
 /// Has the program room for all that the scene lends and gives?

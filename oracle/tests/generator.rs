@@ -83,6 +83,7 @@ fn every_call_answers() {
         ("cancel_run", &[1, 2, 3, 4, 5, 6]),
         ("cancel_amplitude_row", &[1, 2, 3, 4, 5, 6]),
         ("cancel_block_classes", &[1, 2, 5, 7]),
+        ("cancel_clean", &[]),
     ] {
         for number in 1..=7 {
             let seen = kinds.contains_key(&format!("{name:31} refused by {number}"));

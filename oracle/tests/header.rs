@@ -77,6 +77,7 @@ fn figures() {
         ("CANCEL_RUN_FIGURES", "cancel_run"),
         ("CANCEL_ROW_FIGURES", "cancel_amplitude_row"),
         ("CANCEL_CLASSES_FIGURES", "cancel_block_classes"),
+        ("CANCEL_CLEAN_FIGURES", "cancel_clean"),
     ] {
         assert_eq!(defined(constant), Some(call(name).figures as u64), "{constant}");
     }

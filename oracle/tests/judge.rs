@@ -92,6 +92,7 @@ fn each_slice(call: &Call, handed: &mut Handed, outcome: &Outcome, status: u64) 
     turned(handed, |h| &mut h.figures, judged, none, &what("figures"));
     turned(handed, |h| &mut h.given_elements, judged, none, &what("given elements"));
     turned(handed, |h| &mut h.given_fits, judged, none, &what("given fits"));
+    turned(handed, |h| &mut h.check, judged, none, &what("check"));
     let free = past(elements, handed.elements.len(), ELEMENT);
     turned(handed, |h| &mut h.elements, judged, free, &what("elements"));
     let free = past(fits, handed.fits.len(), FIT);

@@ -1,5 +1,6 @@
 -- What the contracts of `capi` cite, each file named as its source.
 pub mod Calls
+pub mod Clean
 pub mod Hypothesis
 pub mod Measures
 pub mod Removal

@@ -1,16 +1,11 @@
 -- The figures of a run, in their order (include/cancel.h). Definitions only.
-use mathlib.Core.Bool.{Bool, true, false}
 use mathlib.Core.List.{List, [], _∷_, _++_}
 use lib.Ieee.{Float}
 use Rattle.float.specs.Ops.{of}
 use Rattle.engine.specs.declared.run.Figures.{Figures}
 use Rattle.figures.specs.Measures.{residualFigures, evidenceFigures}
 use Rattle.figures.specs.Hypothesis.{hypothesisFigures}
-
--- taken is 1, kept is 0
-abbrev pub takenOf : Bool → Float
-takenOf true = of 1
-takenOf false = of 0
+use Rattle.figures.specs.Flag.{flagOf}
 
 -- samples, window, key-downs, listed, short, fitted, skipped, airtime, blocks, edge, interior, gap, other,
 -- carrier_hz, carrier_step_hz, those of the residual check, those of the evidence, hypothesis, its offset, taken
@@ -20,4 +15,4 @@ ranFigures f =
     (of (f .samples) ∷ of (f .window) ∷ of (e .found .«key_downs») ∷ of (e .found .listed) ∷ of (e .found .short) ∷ of (e .fitted)
     ∷ of (f .skipped) ∷ of (e .found .airtime) ∷ of (f .blocks) ∷ of (f .classes .edge) ∷ of (f .classes .interior)
     ∷ of (f .classes .gap) ∷ of (f .classes .other) ∷ e .«carrier_hz» ∷ e .«carrier_step_hz» ∷ [])
-    ++ residualFigures (f .residual) ++ evidenceFigures (f .evidence) ++ hypothesisFigures (f .hypothesis) ++ (takenOf (f .taken) ∷ [])
+    ++ residualFigures (f .residual) ++ evidenceFigures (f .evidence) ++ hypothesisFigures (f .hypothesis) ++ (flagOf (f .taken) ∷ [])

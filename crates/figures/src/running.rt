@@ -1,18 +1,12 @@
 // The figures of a run.
 use crate::count::count;
+use crate::flag::flag;
 use crate::hypothesis::case_of;
 use crate::measures::hertz;
 use crate::measures::present;
 use engine::Figures;
 ghost use mathlib.Core.Path.{_≡_};
-ghost use Rattle.figures.specs.Running.{takenOf, ranFigures};
-
-// 1.0 where the strong sender was taken off, 0.0 where the buffer was kept.
-fn taken(t: bool) -> f64
-    ensures { λ r. ⌜ r ≡ takenOf t ⌝ }
-{
-    if t { 1.0 } else { 0.0 }
-}
+ghost use Rattle.figures.specs.Running.{ranFigures};
 
 pub fn of_run(f: Figures) -> [f64; 28]
     ensures { λ r. ⌜ r ≡ ranFigures f ⌝ }
@@ -53,6 +47,6 @@ pub fn of_run(f: Figures) -> [f64; 28]
         evidence.coherence,
         h.number,
         h.offset_hz,
-        taken(f.taken),
+        flag(f.taken),
     ]
 }

@@ -42,7 +42,7 @@ returns c =
     (same refl
     (same (ap (λ h. h .number) (case .ensures))
     (same (ap (λ h. h .«offset_hz») (case .ensures))
-    (same (c .taken .ensures)
+    (same (c .flag .ensures)
     refl)))))))))))))))))))))))))))
 
 pub of-run-spec : {M : Type 1} → statement M
