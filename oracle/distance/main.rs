@@ -4,6 +4,7 @@
 mod answers;
 mod signs;
 mod special;
+mod tiny;
 
 use num_complex::Complex64;
 use oracle::random::Random;
@@ -100,6 +101,8 @@ fn main() {
     special::print();
     println!();
     signs::print();
+    println!();
+    tiny::print();
     println!();
     answers::print();
 }
