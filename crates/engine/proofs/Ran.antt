@@ -22,6 +22,16 @@ use Rattle.engine.specs.declared.run.Figures.{Figures}
 use Rattle.engine.specs.Run.{takes, runEvidence, runResidual, runTaken, runFigures, runBuffer}
 use Rattle.engine.proofs.Counts.{skipped-is}
 
+-- the estimate and the word of what was found out
+module _ (iq : List Float) (fs hint : Float) (f : Figures) (q : f ≡ runFigures iq fs hint) where
+  pub its-estimate : f .estimate ≡ strongEstimate iq fs hint
+  unfolding runFigures
+  its-estimate = ap (λ (g : Figures). g .estimate) q
+
+  pub its-word : f .taken ≡ runTaken iq fs hint
+  unfolding runFigures
+  its-word = ap (λ (g : Figures). g .taken) q
+
 module _ (iq : List Float) (fs hint : Float) (e : Estimate) (q : e ≡ strongEstimate iq fs hint) (els l fits k : List Float)
     (p : handedElements els (e .found .listed) ≡ handed ELEMENT (strongElements iq fs hint) l)
     (g : handedFits fits (e .fitted) ≡ handed FIT (strongFits iq fs hint) k) where
@@ -46,12 +56,11 @@ module _ (iq : List Float) (fs hint : Float) (e : Estimate) (q : e ≡ strongEst
       → m ≡ measuresOf iq fs (refined iq fs hint) (strongFits iq fs hint) (strongElements iq fs hint)
   measures-of m h = h ∙ rw (fits-are, elements-read els l (e .found .listed) (strongElements iq fs hint) p, carrier-is)
 
-  -- the whole
-  pub run-is : (step : ℕ) (m : Measures) (h : Hypothesis) (taken : Bool) (buf : List Float) → step ≡ stepOf fs
+  -- what it finds out
+  pub found-out : (step : ℕ) (m : Measures) (h : Hypothesis) (taken : Bool) → step ≡ stepOf fs
       → m ≡ measuresOf iq fs (e .«carrier_hz») (fitsIn fits (e .fitted)) (elementsIn els (e .found .listed))
       → h ≡ hypothesisOf (m .evidence) → taken ≡ takes h (e .fitted) (e .«carrier_step_hz») (m .residual)
-      → buf ≡ cond taken (subtracted fs (e .«carrier_hz» ⊘ fs) iq (fitsIn fits (e .fitted))) iq
-      → (_≡_ {A = Figures}
+      → _≡_ {A = Figures}
       (record {
         samples = samples iq;
         window = 8 * step;
@@ -64,13 +73,18 @@ module _ (iq : List Float) (fs hint : Float) (e : Estimate) (q : e ≡ strongEst
         hypothesis = h;
         taken = taken;
       })
-      (runFigures iq fs hint))
-      × (buf ≡ runBuffer iq fs hint)
-  unfolding measuresOf runTaken runFigures runBuffer
-  run-is step m h taken buf s made told says left =
+      (runFigures iq fs hint)
+  unfolding measuresOf runTaken runFigures
+  found-out step m h taken s made told says =
       let all = measures-of m made in
       let residual : m .residual ≡ runResidual iq fs hint = ap (λ (x : Measures). x .residual) all in
       let evidence : m .evidence ≡ runEvidence iq fs hint = ap (λ (x : Measures). x .evidence) all in
       let hypothesis : h ≡ hypothesisOf (runEvidence iq fs hint) = told ∙ ap hypothesisOf evidence in
       let taking : taken ≡ runTaken iq fs hint = says ∙ rw (hypothesis, fitted-is, step-is, residual) in
-      (rw (s, skipped-is iq fs hint e q, q, all, hypothesis, taking), left ∙ rw (taking, carrier-is, fits-are))
+      rw (s, skipped-is iq fs hint e q, q, all, hypothesis, taking)
+
+  -- how it ends
+  pub ended : (taken : Bool) (buf : List Float) → taken ≡ runTaken iq fs hint
+      → buf ≡ cond taken (subtracted fs (e .«carrier_hz» ⊘ fs) iq (fitsIn fits (e .fitted))) iq → buf ≡ runBuffer iq fs hint
+  unfolding runBuffer
+  ended taken buf taking left = left ∙ rw (taking, carrier-is, fits-are)

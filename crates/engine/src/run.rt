@@ -66,7 +66,7 @@ fn takes_off(h: Hypothesis, fitted: usize, step: f64, check: ResidualCheck) -> b
     false
 }
 
-// The first `count` fits are subtracted, or the buffer is kept.
+// How a run ends: the first `count` fits are subtracted, or the buffer is kept.
 fn subtract_where(
     taken: bool,
     buf: &mut [f32],
@@ -84,11 +84,59 @@ fn subtract_where(
 {
     if taken {
         subtract(buf, fs, carrier, fits, count, sine);
-        return;
     }
 }
 
-// Estimate, residual, evidence, hypothesis; then it subtracts where it takes the strong sender off.
+// What a run finds out, of a recording that it only reads: estimate, residual, evidence, hypothesis, and whether all
+// four conditions hold. The lists receive the elements and the fits of the second pass.
+fn find_out(
+    iq: &[f32],
+    fs: f64,
+    hint: f64,
+    elements: &mut [f64],
+    fits: &mut [f64],
+    work: &mut [f64],
+    sine: &[f64; 1025],
+) -> Figures
+    requires { ⌜ Iq (now iq) ⌝ }
+    requires { ⌜ Rate fs ⌝ }
+    requires { ⌜ now sine ≡ quarterSines ⌝ }
+    requires { ⌜ ELEMENT * (stepBlocks (now iq) fs / 2) ≤ length (now elements) ⌝ }
+    requires { ⌜ FIT * (stepBlocks (now iq) fs / 2) ≤ length (now fits) ⌝ }
+    requires { ⌜ 4 * stepBlocks (now iq) fs ≤ length (now work) ⌝ }
+    ensures { λ r. ⌜ (r ≡ runFigures (now (iq .entry)) fs hint)
+        × (handedElements (now (elements .exit)) (r .estimate .found .listed)
+        ≡ handed ELEMENT (strongElements (now (iq .entry)) fs hint) (now (elements .entry)))
+        × (handedFits (now (fits .exit)) (r .estimate .fitted) ≡ handed FIT (strongFits (now (iq .entry)) fs hint) (now (fits .entry))) ⌝ }
+{
+    let samples = iq.len() / 2;
+    let window = 8 * row::edge_step(fs);
+    let estimate = estimate_strong(iq, fs, hint, elements, fits, work, sine);
+    let carrier = estimate.carrier_hz;
+    let found = estimate.found;
+    let listed = found.listed;
+    let fitted = estimate.fitted;
+    let m = measure_both(iq, fs, carrier, elements, listed, fits, fitted, work, sine);
+    let classes = m.classes;
+    let residual = m.residual;
+    let evidence = m.evidence;
+    let hypothesis = classify(evidence);
+    let taken = takes_off(hypothesis, fitted, estimate.carrier_step_hz, residual);
+    Figures {
+        samples,
+        window,
+        estimate,
+        skipped: listed - fitted,
+        blocks: m.blocks,
+        classes,
+        residual,
+        evidence,
+        hypothesis,
+        taken,
+    }
+}
+
+// It finds out, then it subtracts where it takes the strong sender off.
 pub fn run(
     buf: &mut [f32],
     fs: f64,
@@ -110,30 +158,16 @@ pub fn run(
         ≡ handed ELEMENT (strongElements (now (buf .entry)) fs hint) (now (elements .entry)))
         × (handedFits (now (fits .exit)) (r .estimate .fitted) ≡ handed FIT (strongFits (now (buf .entry)) fs hint) (now (fits .entry))) ⌝ }
 {
-    let samples = buf.len() / 2;
-    let window = 8 * row::edge_step(fs);
-    let estimate = estimate_strong(buf, fs, hint, elements, fits, work, sine);
-    let carrier = estimate.carrier_hz;
-    let found = estimate.found;
-    let listed = found.listed;
-    let fitted = estimate.fitted;
-    let m = measure_both(buf, fs, carrier, elements, listed, fits, fitted, work, sine);
-    let classes = m.classes;
-    let residual = m.residual;
-    let evidence = m.evidence;
-    let hypothesis = classify(evidence);
-    let taken = takes_off(hypothesis, fitted, estimate.carrier_step_hz, residual);
-    subtract_where(taken, buf, fs, carrier, fits, fitted, sine);
-    Figures {
-        samples,
-        window,
-        estimate,
-        skipped: listed - fitted,
-        blocks: m.blocks,
-        classes,
-        residual,
-        evidence,
-        hypothesis,
-        taken,
-    }
+    let found = find_out(buf, fs, hint, elements, fits, work, sine);
+    let estimate = found.estimate;
+    subtract_where(
+        found.taken,
+        buf,
+        fs,
+        estimate.carrier_hz,
+        fits,
+        estimate.fitted,
+        sine,
+    );
+    found
 }
