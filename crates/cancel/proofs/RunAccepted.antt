@@ -10,7 +10,8 @@ use lib.Ieee.{Float}
 use Rattle.row.specs.Samples.{allFinite}
 use Rattle.row.specs.Window.{rateOk, stepBlocks}
 use Rattle.elements.specs.declared.element.KeyedElement.{KeyedElement}
-use Rattle.elements.specs.Element.{ELEMENT, Handed, handed}
+use Rattle.lists.specs.Records.{Handed, handed}
+use Rattle.elements.specs.Element.{ELEMENT}
 use Rattle.fits.specs.declared.fit.ElementFit.{ElementFit}
 use Rattle.fits.specs.List.{FIT}
 use Rattle.fits.specs.Estimate.{strongElements, strongFits}

@@ -5,7 +5,8 @@ use lib.ListN.{length}
 use lib.Ieee.{Float}
 use Rattle.row.specs.Window.{stepBlocks}
 use Rattle.elements.specs.declared.element.KeyedElement.{KeyedElement}
-use Rattle.elements.specs.Element.{ELEMENT, Handed, handed, handedElements}
+use Rattle.lists.specs.Records.{Handed, handed}
+use Rattle.elements.specs.Element.{ELEMENT, handedElements}
 use Rattle.fits.specs.declared.fit.ElementFit.{ElementFit}
 use Rattle.fits.specs.List.{FIT, handedFits}
 use Rattle.fits.specs.Estimate.{strongElements, strongFits}

@@ -5,7 +5,8 @@ use mathlib.Core.List.{List, _∷_}
 use lib.Ieee.{Float}
 use Rattle.elements.specs.declared.element.KeyedElement.{KeyedElement}
 use Rattle.elements.specs.declared.keying.Found.{Found}
-use Rattle.elements.specs.Element.{Handed, handedElements, handedNumbers}
+use Rattle.lists.specs.Records.{Handed, handedNumbers}
+use Rattle.elements.specs.Element.{handedElements}
 use Rattle.fits.specs.declared.fit.ElementFit.{ElementFit}
 use Rattle.fits.specs.declared.estimate.Estimate.{Estimate}
 use Rattle.fits.specs.List.{handedFits}

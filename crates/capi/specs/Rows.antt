@@ -4,7 +4,7 @@ use Prim.Native.Nat.{ℕ}
 use mathlib.Core.List.{List, [], _∷_}
 use lib.ListN.{length}
 use lib.Ieee.{Float}
-use Rattle.elements.specs.Element.{Handed, handedNumbers}
+use Rattle.lists.specs.Records.{Handed, handedNumbers}
 use Rattle.questions.specs.Answers.{Outcome, byNumber}
 use Rattle.strong.specs.Amplitude.{RowResult, rowRule}
 use Rattle.given.specs.Blocks.{ClassesResult, classesRule}

@@ -1,15 +1,14 @@
--- A list whose places are one number each; the amplitude row in the work slice, and in such a list that hands it out.
--- Assumes nothing.
+-- The amplitude row in the work slice, and in a list that hands it out, a number a place. Assumes nothing.
 use Prim.Native.Nat.{ℕ, _+_, _-_, _*_, _/_, _^_, _≤_, _<_}
 use native.Mathlib.Omega.{arith}
 use mathlib.Core.Path.{_≡_, refl, ap, _∙_}
 use mathlib.Core.List.{List, []}
-use lib.ListN.{length, getD, take, drop, drop-of-length-le}
+use lib.ListN.{length, getD, take, drop}
 use lib.Ieee.{Float, nan}
 use Rattle.lists.specs.Fill.{fill}
 use Rattle.lists.specs.Firsts.{firsts}
-use Rattle.lists.proofs.Fill.{length-fill, part-fill}
-use Rattle.lists.proofs.Firsts.{length-firsts, firsts-all}
+use Rattle.lists.proofs.Firsts.{length-firsts}
+use Rattle.lists.proofs.Records.{copied-handed}
 use Rattle.float.specs.Ops.{_⊘_}
 use Rattle.complex.specs.Rows.{zFill}
 use Rattle.row.specs.Window.{stepOf, windowOf, samples, blocks, stepBlocks}
@@ -22,30 +21,10 @@ use Rattle.row.proofs.Rows.{row-part, row-is, row-none, row-some}
 use Rattle.elements.specs.declared.amplitude.AmplitudeRow.{AmplitudeRow}
 use Rattle.elements.specs.declared.threshold.Threshold.{Threshold}
 use Rattle.elements.specs.declared.threshold.Threshold.the-variants.{At, Absent}
-use Rattle.elements.specs.Element.{handed, handedNumbers}
+use Rattle.lists.specs.Records.{handed, handedNumbers}
 use Rattle.elements.specs.Find.{rowThreshold, thresholdOf, amplitudeRowOf, foundAt, elementsAt, foundOf, elementsFound}
 use Rattle.elements.proofs.Same.{found-same, elements-same}
 use Rattle.elements.proofs.Bounds.{some-row}
-
--- ---- numbers handed out
-
--- a list that keeps its length and has these numbers at its first places
-pub numbers-handed : (l cur xs : List Float) (n : ℕ) → length cur ≡ length l → take n cur ≡ xs → handedNumbers cur n ≡ handed 1 xs l
-unfolding handed handedNumbers
-numbers-handed l cur xs n size first =
-    let rest : (m : List Float) → drop (1 * (length m / 1)) m ≡ [] = λ m. drop-of-length-le m {i = 1 * (length m / 1)} (omega arith) in
-    rw (first, rest cur, rest l, size)
-
-pub numbers-read : (cur l : List Float) (n : ℕ) (xs : List Float) → handedNumbers cur n ≡ handed 1 xs l → take n cur ≡ xs
-unfolding handed handedNumbers
-numbers-read cur l n xs e = ap (λ h. h .records) e
-
--- a list to whose start another is copied
-pub copied-handed : (l xs : List Float) → length xs ≤ length l → handedNumbers (fill l 0 (λ k. getD xs k nan) (length xs)) (length xs) ≡ handed 1 xs l
-copied-handed l xs room =
-    let at : ℕ → Float = λ k. getD xs k nan in
-    numbers-handed l (fill l 0 at (length xs)) xs (length xs) (length-fill l 0 at (length xs))
-    (part-fill l 0 at (length xs) nan (omega arith) ∙ firsts-all at xs nan (λ k b. refl))
 
 -- ---- the row in the work slice
 

@@ -8,7 +8,8 @@ use Rattle.row.specs.Samples.{Singles, Iq}
 use Rattle.row.specs.Window.{stepOf}
 use Rattle.row.specs.Envelope.{rowOf, rowLength}
 use Rattle.elements.specs.declared.keying.Found.{Found}
-use Rattle.elements.specs.Element.{ELEMENT, elementsIn, handed, handedElements}
+use Rattle.lists.specs.Records.{handed}
+use Rattle.elements.specs.Element.{ELEMENT, elementsIn, handedElements}
 use Rattle.elements.specs.Keying.{KeyDown, keyDowns, InOrder, LongKeyDowns, RowCounts, elementOf, long, listedOf, noKeyDowns, counts, elementsOf, foundTo, elementsTo}
 use Rattle.elements.specs.declared.threshold.Threshold.the-variants.{At, Absent}
 use Rattle.elements.specs.Find.{thresholdOf, keyDownsOf, foundOf, elementsFound}

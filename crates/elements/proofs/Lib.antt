@@ -1,7 +1,7 @@
 -- Laws that the proofs of `elements` share and that the crates above cite, and its theorems, by subject.
 
--- Records     records of any kind in a list, by their width and where they are stored: `Kind`, `stored-handed`; of
---             elements: `element-kind`, `elements-handed`; what a promise says: `elements-read`, `elements-again`
+-- Records     elements in a list, by the laws on records of any kind (lists Records): `element-kind`,
+--             `elements-handed`; what a promise says: `elements-read`, `elements-again`
 -- Reached     an amplitude lies below a threshold or reaches it: `not-reached`, `reached`
 -- Joined      counts and elements of one list of key-downs behind another
 -- Walk        a turn of the loop over a row: what is pending, counted and stored; how small the counts are
@@ -14,9 +14,8 @@
 --             `handed-exactly`; counted are all key-downs of the row: `counted-exactly`; without a threshold nothing:
 --             `found-nothing`, `handed-nothing`, `counted-nothing`
 -- Ways        the ways out of `find_elements`
--- Amplitudes  numbers at the first places of a list: `numbers-handed`, `numbers-read`, `copied-handed`; the row in the
---             work slice: `row-empty`, `row-read`, how long it is: `row-size`, `row-few`; in a lent list: `row-made`;
---             key-downs by the numbers handed out: `found-by-row`, `elements-by-row`
+-- Amplitudes  the row in the work slice: `row-empty`, `row-read`, how long it is: `row-size`, `row-few`; in a lent
+--             list: `row-made`; key-downs by the numbers handed out: `found-by-row`, `elements-by-row`
 -- Edges       at fs 3,000: `step-3000`, `window-3000`
 pub mod Records
 pub mod Reached

@@ -15,11 +15,13 @@ use Rattle.elements.specs.declared.keying.Rising.the-variants.{At, Nothi
 use Rattle.elements.specs.declared.keying.Found.{Found}
 use Rattle.elements.specs.Keying.{upward, downward, KeyDown, keyDown, pending, ended, keyDowns, elementOf, isLong, long, airtimeOf, noKeyDowns, listedOf, shortOf, counts, elementsOf, foundTo, elementsTo}
 use Rattle.elements.specs.Element.{ELEMENT, elementFrom}
-use Rattle.elements.specs.Inner.{putElementFrom, putElement, storedBy, stored, storedFrom, foundPlus, oneListed, oneShort, Room, Ending}
+use Rattle.lists.specs.Records.{storedBy}
+use Rattle.elements.specs.Inner.{putElementFrom, putElement, stored, storedFrom, foundPlus, oneListed, oneShort, Room, Ending}
 use Rattle.lists.specs.Those.{those}
 use Rattle.elements.proofs.Reached.{not-reached}
 use Rattle.elements.proofs.Joined.{airtime-append, airtime-steps, those-less, counts-append, elements-append}
-use Rattle.elements.proofs.Records.{length-stored, stored-append, element-kind}
+use Rattle.lists.proofs.Records.{length-stored, stored-append}
+use Rattle.elements.proofs.Records.{element-kind}
 use Rattle.lists.proofs.Those.{those-shorter}
 
 -- a position times the step is far below 2^53

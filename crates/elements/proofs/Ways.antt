@@ -16,7 +16,8 @@ use Rattle.rank.specs.declared.Percentile.the-variants.{Value, Nothing}
 use Rattle.rank.specs.Select.{percentileOf}
 use Rattle.elements.specs.declared.keying.Found.{Found}
 use Rattle.elements.specs.Keying.{noKeyDowns, foundTo, elementsTo}
-use Rattle.elements.specs.Element.{ELEMENT, elementsIn, handed, handedElements}
+use Rattle.lists.specs.Records.{handed}
+use Rattle.elements.specs.Element.{ELEMENT, elementsIn, handedElements}
 use Rattle.elements.specs.Inner.{stored}
 use Rattle.elements.specs.declared.threshold.Threshold.the-variants.{Absent}
 use Rattle.elements.specs.Find.{halfOf, thresholdOf, foundOf, elementsFound}

@@ -1,8 +1,9 @@
 -- Not needed to read a public promise: what the functions behind `find_elements` require and ensure. Definitions only.
-use Prim.Native.Nat.{ℕ, suc, _+_, _*_, _^_, _≤_, _<_}
-use mathlib.Core.List.{List, [], _∷_}
+use Prim.Native.Nat.{ℕ, _+_, _*_, _^_, _≤_, _<_}
+use mathlib.Core.List.{List}
 use lib.ListN.{set}
 use lib.Ieee.{Float}
+use Rattle.lists.specs.Records.{storedBy}
 use Rattle.elements.specs.declared.element.KeyedElement.{KeyedElement}
 use Rattle.elements.specs.declared.keying.Found.{Found}
 use Rattle.elements.specs.Element.{ELEMENT}
@@ -15,11 +16,6 @@ putElementFrom l at e = set (set (set (set l at (e .start)) (at + 1) (e .end)) (
 
 abbrev pub putElement : List Float → ℕ → KeyedElement → List Float
 putElement l p e = putElementFrom l (ELEMENT * p) e
-
--- Records of `width` numbers stored one after the other from place p on. `put` stores one from a number on.
-unfoldable pub storedBy : {A : Type 0} → ℕ → (List Float → ℕ → A → List Float) → List Float → ℕ → List A → List Float
-storedBy width put l p [] = l
-storedBy width put l p (x ∷ xs) = storedBy width put (put l (width * p) x) (suc p) xs
 
 -- elements stored one after the other, from place p on and from the start on
 abbrev pub storedFrom : List Float → ℕ → List KeyedElement → List Float

@@ -13,7 +13,7 @@ ghost use Rattle.trig.specs.Circle.{quarterSines};
 ghost use Rattle.row.specs.Window.{Rate, stepBlocks};
 ghost use Rattle.row.specs.Samples.{Iq};
 ghost use Rattle.row.specs.Envelope.{rowOf, rowLength};
-ghost use Rattle.elements.specs.Element.{handed, handedNumbers};
+ghost use Rattle.lists.specs.Records.{handed, handedNumbers};
 ghost use Rattle.elements.specs.Find.{amplitudeRowOf};
 
 // How many amplitudes the row has, and its threshold.

@@ -12,7 +12,8 @@ ghost use lib.ListN.{length};
 ghost use Rattle.trig.specs.Circle.{quarterSines};
 ghost use Rattle.row.specs.Window.{Rate, stepBlocks};
 ghost use Rattle.row.specs.Samples.{Iq};
-ghost use Rattle.elements.specs.Element.{ELEMENT, handed, handedElements};
+ghost use Rattle.lists.specs.Records.{handed};
+ghost use Rattle.elements.specs.Element.{ELEMENT, handedElements};
 ghost use Rattle.elements.specs.Find.{foundOf, elementsFound};
 
 // Rust: find_elements, which answers the elements as a list of its own and counts nothing. Its way out for n < window

@@ -7,7 +7,8 @@ use lib.ListN.{length}
 use lib.Ieee.{Float}
 use Rattle.float.specs.Ops.{_⊘_}
 use Rattle.row.specs.Window.{stepOf, samples}
-use Rattle.elements.specs.Element.{ELEMENT, elementsIn, handed, handedElements}
+use Rattle.lists.specs.Records.{handed}
+use Rattle.elements.specs.Element.{ELEMENT, elementsIn, handedElements}
 use Rattle.elements.proofs.Records.{elements-read}
 use Rattle.fits.specs.declared.estimate.Estimate.{Estimate}
 use Rattle.fits.specs.List.{FIT, fitsIn, handedFits}

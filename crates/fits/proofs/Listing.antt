@@ -10,9 +10,9 @@ use Rattle.float.specs.Ops.{_⊘_}
 use Rattle.lists.specs.Firsts.{firsts}
 use Rattle.lists.proofs.Firsts.{length-firsts}
 use Rattle.elements.specs.declared.element.KeyedElement.{KeyedElement}
-use Rattle.elements.specs.Element.{elementAt, elementsIn, handed}
-use Rattle.elements.specs.Inner.{storedBy}
-use Rattle.elements.proofs.Records.{stored-append}
+use Rattle.lists.specs.Records.{handed, storedBy}
+use Rattle.elements.specs.Element.{elementAt, elementsIn}
+use Rattle.lists.proofs.Records.{stored-append}
 use Rattle.fits.specs.declared.fit.ElementFit.{ElementFit}
 use Rattle.fits.specs.declared.fit.Fit.{Fit}
 use Rattle.fits.specs.declared.fit.Fit.the-variants.{Fitted, Skipped}

@@ -13,7 +13,8 @@ use Rattle.row.specs.Samples.{Singles, Iq}
 use Rattle.row.specs.Window.{Rate, stepBlocks}
 use Rattle.elements.specs.declared.element.KeyedElement.{KeyedElement}
 use Rattle.elements.specs.declared.keying.Found.{Found}
-use Rattle.elements.specs.Element.{ELEMENT, elementAt, elementsIn, handed, handedElements}
+use Rattle.lists.specs.Records.{handed}
+use Rattle.elements.specs.Element.{ELEMENT, elementAt, elementsIn, handedElements}
 use Rattle.elements.specs.Find.{foundOf, elementsFound}
 use Rattle.lists.proofs.Firsts.{getD-firsts}
 use Rattle.lists.proofs.Members.{member-at}

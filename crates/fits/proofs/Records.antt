@@ -1,5 +1,5 @@
--- Fits in a list: stored from a number on and read back. `fit-kind` gives the laws on records of any kind (elements
--- Records) for fits; `fits-handed` says what a list of fits hands out.
+-- Fits in a list: stored from a number on and read back. `fit-kind` gives the laws on records of any kind (lists Records)
+-- for fits; `fits-handed` says what a list of fits hands out.
 use Prim.Native.Nat.{ℕ, _+_, _*_, _≤_, _<_}
 use native.Mathlib.Omega.{arith}
 use mathlib.Core.Path.{_≡_, ap, _∙_}
@@ -7,9 +7,11 @@ use mathlib.Core.List.{List}
 use lib.ListN.{length, getD, set, drop, length-set}
 use lib.Seq.{getD-set-same, getD-set-other, drop-set-lt}
 use lib.Ieee.{Float, nan}
-use Rattle.elements.specs.Element.{ELEMENT, elementFrom, Handed, handed}
+use Rattle.lists.specs.Records.{Handed, handed}
+use Rattle.elements.specs.Element.{ELEMENT, elementFrom}
 use Rattle.elements.specs.Inner.{putElementFrom}
-use Rattle.elements.proofs.Records.{Kind, stored-handed, handed-again, element-put, element-after, before-element}
+use Rattle.lists.proofs.Records.{Kind, stored-handed, handed-again}
+use Rattle.elements.proofs.Records.{element-put, element-after, before-element}
 use Rattle.fits.specs.declared.fit.ElementFit.{ElementFit}
 use Rattle.fits.specs.List.{FIT, fitFrom, fitsIn, handedFits}
 use Rattle.fits.specs.Inner.{putFitFrom, storedFits}
@@ -104,7 +106,7 @@ module _ (l : List Float) (at : ℕ) (f : ElementFit) where
     fit-put : fitFrom (putFitFrom l at f) at ≡ f
     fit-put = rw (element-is, re-is, im-is, slope-is, reference-is)
 
-pub fit-kind : Kind ElementFit FIT fitFrom putFitFrom
+pub fit-kind : Kind Float ElementFit FIT fitFrom putFitFrom
 fit-kind =
     record {
       some = omega arith;

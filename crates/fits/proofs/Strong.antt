@@ -12,7 +12,8 @@ use Rattle.lists.specs.Those.{those}
 use Rattle.row.specs.Samples.{Singles, Iq}
 use Rattle.row.specs.Window.{stepOf}
 use Rattle.row.specs.Envelope.{rowOf, rowLength}
-use Rattle.elements.specs.Element.{ELEMENT, elementsIn, handed, handedElements}
+use Rattle.lists.specs.Records.{handed}
+use Rattle.elements.specs.Element.{ELEMENT, elementsIn, handedElements}
 use Rattle.elements.specs.Keying.{LongKeyDowns}
 use Rattle.elements.specs.declared.threshold.Threshold.the-variants.{At, Absent}
 use Rattle.elements.specs.Find.{thresholdOf, elementsFound}

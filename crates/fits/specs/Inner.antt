@@ -8,7 +8,8 @@ use lib.Ieee.{Float}
 use Rattle.float.specs.Size.{sized}
 use Rattle.elements.specs.declared.element.KeyedElement.{KeyedElement}
 use Rattle.elements.specs.Element.{ELEMENT, elementAt}
-use Rattle.elements.specs.Inner.{putElementFrom, storedBy}
+use Rattle.lists.specs.Records.{storedBy}
+use Rattle.elements.specs.Inner.{putElementFrom}
 use Rattle.fits.specs.declared.fit.ElementFit.{ElementFit}
 use Rattle.fits.specs.List.{FIT}
 

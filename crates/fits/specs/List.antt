@@ -10,7 +10,8 @@ use Rattle.lists.specs.Firsts.{firsts}
 use Rattle.lists.specs.Those.{those}
 use Rattle.complex.specs.Value.{cNew}
 use Rattle.elements.specs.declared.element.KeyedElement.{KeyedElement}
-use Rattle.elements.specs.Element.{ELEMENT, elementFrom, Handed, handed}
+use Rattle.lists.specs.Records.{Handed, handed}
+use Rattle.elements.specs.Element.{ELEMENT, elementFrom}
 use Rattle.fits.specs.declared.fit.ElementFit.{ElementFit}
 use Rattle.fits.specs.declared.fit.Fit.{Fit}
 use Rattle.fits.specs.declared.fit.Fit.the-variants.{Fitted, Skipped}

@@ -13,7 +13,8 @@ ghost use lib.ListN.{length};
 ghost use Rattle.trig.specs.Circle.{quarterSines};
 ghost use Rattle.row.specs.Samples.{Iq};
 ghost use Rattle.row.specs.Window.{Rate, stepBlocks};
-ghost use Rattle.elements.specs.Element.{ELEMENT, elementsIn, handed};
+ghost use Rattle.lists.specs.Records.{handed};
+ghost use Rattle.elements.specs.Element.{ELEMENT, elementsIn};
 ghost use Rattle.fits.specs.List.{FIT, fitAt, handedFits, ifFitted, fitsOf};
 ghost use Rattle.fits.specs.Inner.{AllTimed, putFit, fitsFrom};
 

@@ -14,8 +14,9 @@ use borrow.Rule.Slice.PartMut.{midOf, postOf, putMid, same-len-mid}
 use Rattle.lists.proofs.Every.{and-right}
 use Rattle.row.specs.Window.{Rate}
 use Rattle.row.proofs.Steps.{rate-is}
-use Rattle.elements.specs.Element.{ELEMENT, handed, handedNumbers}
-use Rattle.elements.proofs.Amplitudes.{numbers-handed}
+use Rattle.lists.specs.Records.{handed, handedNumbers}
+use Rattle.elements.specs.Element.{ELEMENT}
+use Rattle.lists.proofs.Records.{numbers-handed}
 use Rattle.fits.specs.List.{FIT}
 use Rattle.classes.specs.declared.class.BlockClass.{BlockClass}
 use Rattle.classes.specs.declared.classify.ClassCounts.{ClassCounts}

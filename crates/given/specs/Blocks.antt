@@ -4,7 +4,8 @@ use mathlib.Core.List.{List, [], _∷_}
 use lib.ListN.{length}
 use lib.Ieee.{Float}
 use Rattle.row.specs.Window.{rateOk}
-use Rattle.elements.specs.Element.{elementsIn, Handed, handed, handedNumbers}
+use Rattle.lists.specs.Records.{Handed, handed, handedNumbers}
+use Rattle.elements.specs.Element.{elementsIn}
 use Rattle.fits.specs.List.{fitsIn}
 use Rattle.classes.specs.declared.class.BlockClass.{BlockClass}
 use Rattle.classes.specs.Class.{codesOf}

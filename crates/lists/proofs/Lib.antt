@@ -12,6 +12,9 @@
 --           `getD-keep`, `getD-keep-below`
 -- Members   `member-at`, `map-same`; which ones pass a test: `those-are`, `those-others`, `those-same`
 -- Sums      loops that add: `fSum-none`, `fSum-turn`, `fSum-done`, `fSum-cong`; `over-more`
+-- Records   records of any kind in a list, by their width and where they are stored: `Kind`, `length-stored`,
+--           `stored-append`; what it then hands out: `stored-handed`, `handed-again`, where places past the count keep
+--           what they held `stored-keeping`; numbers: `numbers-handed`, `numbers-read`, `copied-handed`
 pub mod Fill
 pub mod Firsts
 pub mod Every
@@ -20,3 +23,4 @@ pub mod Those
 pub mod Kept
 pub mod Members
 pub mod Sums
+pub mod Records

@@ -5,3 +5,4 @@ pub mod Every
 pub mod Count
 pub mod Those
 pub mod Sums
+pub mod Records

@@ -12,7 +12,7 @@ use Rattle.row.specs.Samples.{Iq}
 use Rattle.row.specs.Envelope.{rowOf, rowLength}
 use Rattle.row.proofs.Steps.{rate-is}
 use Rattle.elements.specs.declared.amplitude.AmplitudeRow.{AmplitudeRow}
-use Rattle.elements.specs.Element.{Handed, handed}
+use Rattle.lists.specs.Records.{Handed, handed}
 use Rattle.elements.specs.Find.{amplitudeRowOf}
 use Rattle.strong.specs.declared.amplitude.RowAnswer.{RowAnswer}
 use Rattle.strong.specs.declared.amplitude.RowAnswer.the-variants.{Refused, Done}

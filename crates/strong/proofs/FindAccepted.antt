@@ -10,7 +10,8 @@ use Rattle.row.specs.Samples.{Iq}
 use Rattle.row.proofs.Steps.{rate-is}
 use Rattle.elements.specs.declared.element.KeyedElement.{KeyedElement}
 use Rattle.elements.specs.declared.keying.Found.{Found}
-use Rattle.elements.specs.Element.{ELEMENT, Handed, handed}
+use Rattle.lists.specs.Records.{Handed, handed}
+use Rattle.elements.specs.Element.{ELEMENT}
 use Rattle.elements.specs.Find.{foundOf, elementsFound}
 use Rattle.strong.specs.declared.find.FindAnswer.{FindAnswer}
 use Rattle.strong.specs.declared.find.FindAnswer.the-variants.{Refused, Done}

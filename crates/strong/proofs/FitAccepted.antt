@@ -8,7 +8,8 @@ use lib.Ieee.{Float}
 use Rattle.row.specs.Window.{Rate, stepBlocks}
 use Rattle.row.specs.Samples.{Iq}
 use Rattle.row.proofs.Steps.{rate-is}
-use Rattle.elements.specs.Element.{ELEMENT, Handed, handed}
+use Rattle.lists.specs.Records.{Handed, handed}
+use Rattle.elements.specs.Element.{ELEMENT}
 use Rattle.fits.specs.declared.fit.ElementFit.{ElementFit}
 use Rattle.fits.specs.List.{FIT}
 use Rattle.fits.specs.Inner.{AllTimed}

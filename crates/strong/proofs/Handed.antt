@@ -23,7 +23,8 @@ use Rattle.elements.specs.Keying.{LongKeyDowns, RowCounts, noKeyDowns}
 use Rattle.elements.specs.declared.threshold.Threshold.the-variants.{At, Absent}
 use Rattle.elements.specs.Find.{thresholdOf, amplitudeRowOf, foundAt, elementsAt, foundOf, elementsFound}
 use Rattle.elements.proofs.Records.{elements-read}
-use Rattle.elements.proofs.Amplitudes.{numbers-read, found-by-row, elements-by-row}
+use Rattle.lists.proofs.Records.{numbers-read}
+use Rattle.elements.proofs.Amplitudes.{found-by-row, elements-by-row}
 use Rattle.elements.proofs.Exactly.{handed-exactly, handed-nothing, counted-exactly, counted-nothing}
 use Rattle.fits.specs.declared.fit.ElementFit.{ElementFit}
 use Rattle.fits.specs.declared.fit.Fit.the-variants.{Fitted}

@@ -7,7 +7,7 @@ use Rattle.lists.specs.Firsts.{firsts}
 use Rattle.row.specs.Window.{stepBlocks}
 use Rattle.row.specs.Envelope.{rowOf, rowLength}
 use Rattle.elements.specs.declared.amplitude.AmplitudeRow.{AmplitudeRow}
-use Rattle.elements.specs.Element.{Handed, handed, handedNumbers}
+use Rattle.lists.specs.Records.{Handed, handed, handedNumbers}
 use Rattle.elements.specs.Find.{amplitudeRowOf}
 use Rattle.strong.specs.declared.amplitude.RowAnswer.{RowAnswer}
 use Rattle.strong.specs.declared.amplitude.RowAnswer.the-variants.{Refused, Done}

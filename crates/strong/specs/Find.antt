@@ -6,7 +6,8 @@ use lib.Ieee.{Float}
 use Rattle.row.specs.Window.{stepBlocks}
 use Rattle.elements.specs.declared.element.KeyedElement.{KeyedElement}
 use Rattle.elements.specs.declared.keying.Found.{Found}
-use Rattle.elements.specs.Element.{ELEMENT, Handed, handed, handedElements}
+use Rattle.lists.specs.Records.{Handed, handed}
+use Rattle.elements.specs.Element.{ELEMENT, handedElements}
 use Rattle.elements.specs.Find.{foundOf, elementsFound}
 use Rattle.strong.specs.declared.find.FindAnswer.{FindAnswer}
 use Rattle.strong.specs.declared.find.FindAnswer.the-variants.{Refused, Done}

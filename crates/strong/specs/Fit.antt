@@ -4,7 +4,8 @@ use mathlib.Core.List.{List, [], _∷_, _++_}
 use lib.ListN.{length}
 use lib.Ieee.{Float}
 use Rattle.row.specs.Window.{stepBlocks}
-use Rattle.elements.specs.Element.{elementsIn, Handed, handed}
+use Rattle.lists.specs.Records.{Handed, handed}
+use Rattle.elements.specs.Element.{elementsIn}
 use Rattle.fits.specs.declared.fit.ElementFit.{ElementFit}
 use Rattle.fits.specs.List.{FIT, handedFits, fitsOf}
 use Rattle.strong.specs.declared.fit.FitAnswer.{FitAnswer}
