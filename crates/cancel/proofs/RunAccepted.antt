@@ -33,12 +33,12 @@ run-result f g b c h i j k v w p q r s t = rw (p, q, r, s, t)
 
 -- ---- what its promise says of a refusal, and of an accepted call
 module _ (buf : List Float) (fs hint : Float) (elements fits work : List Float) where
-  pub run-refused : (n : ℕ) (lent : List (List Float)) → refused n lent ≡ runRule buf fs hint elements fits work → n ≡ 0 → ⊥
+  pub run-refused : (n : ℕ) (lent : List Float × List Float × List Float × List Float) → refused n lent ≡ runRule buf fs hint elements fits work → n ≡ 0 → ⊥
   unfolding runRule
   run-refused n lent e = refused-by _ _ _ n lent e
 
   -- its number is one of 1 to 6
-  pub run-number : (n : ℕ) (lent : List (List Float)) → refused n lent ≡ runRule buf fs hint elements fits work → (1 ≤ n) × (n ≤ 6)
+  pub run-number : (n : ℕ) (lent : List Float × List Float × List Float × List Float) → refused n lent ≡ runRule buf fs hint elements fits work → (1 ≤ n) × (n ≤ 6)
   unfolding runRule
   run-number n lent e =
       let some = run-refused n lent e in

@@ -15,6 +15,7 @@ use Rattle.engine.specs.Run.{runFigures, runBuffer}
 use Rattle.cancel.specs.declared.running.RunAnswer.{RunAnswer}
 use Rattle.cancel.specs.declared.running.RunAnswer.the-variants.{Refused, Done}
 use Rattle.questions.specs.Answers.{Outcome, accepted, refused, byNumber}
+use Rattle.questions.specs.Refusals.{REFUSED_CARRIER, REFUSED_PLACES, REFUSED_WORK}
 use Rattle.questions.specs.Questions.{Asked, ask, firstNo, recordingQuestions, carrierOk, placesOk, workOk}
 
 -- It asks 1 to 6. Each of the two lists to be filled needs floor(B/2) places.
@@ -22,7 +23,7 @@ abbrev pub runQuestions : List Float → Float → Float → ℕ → ℕ → ℕ
 runQuestions buf fs hint elements fits work =
     let b = stepBlocks buf fs in
     recordingQuestions buf fs
-    ++ (ask 4 (carrierOk fs hint) ∷ ask 5 (placesOk (b / 2) (elements / ELEMENT)) ∷ ask 5 (placesOk (b / 2) (fits / FIT)) ∷ ask 6 (workOk b work) ∷ [])
+    ++ (ask REFUSED_CARRIER (carrierOk fs hint) ∷ ask REFUSED_PLACES (placesOk (b / 2) (elements / ELEMENT)) ∷ ask REFUSED_PLACES (placesOk (b / 2) (fits / FIT)) ∷ ask REFUSED_WORK (workOk b work) ∷ [])
 
 -- Every figure, what the buffer holds, the elements and the fits that the lists hand out, and the length of the work
 -- slice.
@@ -34,15 +35,15 @@ pub record RunResult : Type 0 where
   pub work : ℕ
 
 -- the number and the result of each answer, with what the lent slices then hold
-abbrev pub runOutcome : RunAnswer → List Float → List Float → List Float → List Float → Outcome RunResult
-runOutcome (Refused n) buf elements fits work = refused n (buf ∷ elements ∷ fits ∷ work ∷ [])
+abbrev pub runOutcome : RunAnswer → List Float → List Float → List Float → List Float → Outcome (List Float × List Float × List Float × List Float) RunResult
+runOutcome (Refused n) buf elements fits work = refused n (buf, elements, fits, work)
 runOutcome (Done f) buf elements fits work =
     accepted
     (record { figures = f; buffer = buf; elements = handedElements elements (f .estimate .found .listed); fits = handedFits fits (f .estimate .fitted); work = length work })
 
 -- The first no is the result, and nothing is written; else the run's figures and its buffer, and in the lists the
 -- elements and the fits of the second pass.
-unfoldable pub runRule : List Float → Float → Float → List Float → List Float → List Float → Outcome RunResult
+unfoldable pub runRule : List Float → Float → Float → List Float → List Float → List Float → Outcome (List Float × List Float × List Float × List Float) RunResult
 runRule buf fs hint elements fits work =
     byNumber (firstNo (runQuestions buf fs hint (length elements) (length fits) (length work)))
     (record {
@@ -52,4 +53,4 @@ runRule buf fs hint elements fits work =
       fits = handed FIT (strongFits buf fs hint) fits;
       work = length work;
     })
-    (buf ∷ elements ∷ fits ∷ work ∷ [])
+    (buf, elements, fits, work)

@@ -30,7 +30,7 @@ module _ (buf : List Float) (fs hint : Float) (elements fits work figures-before
         work = length work-after;
       }
 
-  accepted-told : (rule : Outcome RunResult) → rule ≡ runRule buf fs hint elements fits work → accepted called ≡ forC runTold figures-before rule
+  accepted-told : (rule : Outcome (List Float × List Float × List Float × List Float) RunResult) → rule ≡ runRule buf fs hint elements fits work → accepted called ≡ forC runTold figures-before rule
       → (figures ≡ ranFigures (runFigures buf fs hint)) × (runOutcome (Done (runFigures buf fs hint)) buffer-after elements-after fits-after work-after ≡ runRule buf fs hint elements fits work)
   unfolding runFigures
   accepted-told (refused n lent) q e = let never : _≡_ {A = ℕ} 0 1 = cc in absurd (omega arith)

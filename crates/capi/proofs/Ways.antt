@@ -1,7 +1,7 @@
 -- The two ways out of a call from C, by what the call of crate cancel answered. Assumes nothing.
 use Prim.Native.Nat.{ℕ, zero, suc}
 use mathlib.Core.Path.{_≡_, refl, ap, _∙_}
-use mathlib.Core.List.{List, _∷_}
+use mathlib.Core.List.{List}
 use lib.Ieee.{Float}
 use Rattle.elements.specs.declared.element.KeyedElement.{KeyedElement}
 use Rattle.elements.specs.declared.keying.Found.{Found}
@@ -14,20 +14,20 @@ use Rattle.questions.specs.Answers.{Outcome, accepted, refused, byNumber}
 use Rattle.figures.specs.Calls.{foundFigures, fittedFigures, estimateFigures}
 use Rattle.capi.specs.Calls.{Called, forC}
 
-refuses : {A : Type 0} (n : ℕ) (a : A) (lent : List (List Float)) → (n ≡ 0 → ⊥) → byNumber n a lent ≡ refused n lent
+refuses : {L A : Type 0} (n : ℕ) (a : A) (lent : L) → (n ≡ 0 → ⊥) → byNumber n a lent ≡ refused n lent
 unfolding byNumber
 refuses zero a lent h = absurd (h refl)
 refuses (suc n) a lent h = refl
 
 -- a refusal by a call that answers no figures
-pub refused-way : {A : Type 0} (n : ℕ) (a : A) (lent : List (List Float)) (rule : Outcome A) → refused n lent ≡ rule → (n ≡ 0 → ⊥) → byNumber n a lent ≡ rule
+pub refused-way : {L A : Type 0} (n : ℕ) (a : A) (lent : L) (rule : Outcome L A) → refused n lent ≡ rule → (n ≡ 0 → ⊥) → byNumber n a lent ≡ rule
 refused-way n a lent rule e h = refuses n a lent h ∙ e
 
-module _ {A B : Type 0} (told : A → Called B) (figures : List Float) (rule : Outcome A) (called : Called B) where
-  pub refused-call : (n : ℕ) (lent : List (List Float)) → refused n lent ≡ rule → (n ≡ 0 → ⊥) → byNumber n called (figures ∷ lent) ≡ forC told figures rule
-  refused-call n lent e h = rw (← e) (refuses n called (figures ∷ lent) h)
+module _ {L A B : Type 0} (told : A → Called B) (figures : List Float) (rule : Outcome L A) (called : Called B) where
+  pub refused-call : (n : ℕ) (lent : L) → refused n lent ≡ rule → (n ≡ 0 → ⊥) → byNumber n called (figures, lent) ≡ forC told figures rule
+  refused-call n lent e h = rw (← e) (refuses n called (figures, lent) h)
 
-  pub done-call : (r : A) (lent : List (List Float)) → accepted r ≡ rule → called ≡ told r → byNumber 0 called lent ≡ forC told figures rule
+  pub done-call : (r : A) (lent : List Float × L) → accepted r ≡ rule → called ≡ told r → byNumber 0 called lent ≡ forC told figures rule
   unfolding byNumber
   done-call r lent e q = rw (← e) (ap accepted q)
 

@@ -90,7 +90,7 @@ classes-made iq-len fs elements element-count fits fit-count blocks r l ys all l
 -- ---- what its promise says of a refusal, and of an accepted call
 
 module _ (iq-len : ℕ) (fs hz step : Float) (elements : List Float) (element-count : ℕ) (fits : List Float) (fit-count : ℕ) (classes : List Float) where
-  pub classes-refused : (n : ℕ) (lent : List (List Float)) → refused n lent ≡ classesRule iq-len fs hz step elements element-count fits fit-count classes → n ≡ 0 → ⊥
+  pub classes-refused : (n : ℕ) (lent : List Float) → refused n lent ≡ classesRule iq-len fs hz step elements element-count fits fit-count classes → n ≡ 0 → ⊥
   unfolding classesRule
   classes-refused n lent e = refused-by _ _ _ n lent e
 
@@ -108,7 +108,7 @@ module _ (iq-len : ℕ) (fs hz step : Float) (elements : List Float) (element-co
   blocks-told r e = ap (λ (b : BlockClasses). b .blocks) (classes-done r e .0)
 
   -- its number is that of a question it asks, answered no
-  pub classes-number : (n : ℕ) (lent : List (List Float)) → refused n lent ≡ classesRule iq-len fs hz step elements element-count fits fit-count classes → List·Memᴰ (ask n false) (classesQuestions iq-len fs hz step elements element-count fits fit-count (length classes))
+  pub classes-number : (n : ℕ) (lent : List Float) → refused n lent ≡ classesRule iq-len fs hz step elements element-count fits fit-count classes → List·Memᴰ (ask n false) (classesQuestions iq-len fs hz step elements element-count fits fit-count (length classes))
   unfolding classesRule
   classes-number n lent e = refused-asked (classesQuestions iq-len fs hz step elements element-count fits fit-count (length classes)) _ _ n lent e
 

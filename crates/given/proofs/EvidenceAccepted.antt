@@ -49,12 +49,12 @@ evidence-result r s v w a b = rw (a, b)
 -- ---- what its promise says of a refusal
 
 module _ (iq : List Float) (fs hz step : Float) (elements : List Float) (element-count : ℕ) (fits : List Float) (fit-count : ℕ) (work : List Float) where
-  pub evidence-refused : (n : ℕ) (lent : List (List Float)) → refused n lent ≡ evidenceRule iq fs hz step elements element-count fits fit-count work → n ≡ 0 → ⊥
+  pub evidence-refused : (n : ℕ) (lent : List Float) → refused n lent ≡ evidenceRule iq fs hz step elements element-count fits fit-count work → n ≡ 0 → ⊥
   unfolding evidenceRule
   evidence-refused n lent e = refused-by _ _ _ n lent e
 
   -- its number is that of a question it asks, answered no
-  pub evidence-number : (n : ℕ) (lent : List (List Float)) → refused n lent ≡ evidenceRule iq fs hz step elements element-count fits fit-count work → List·Memᴰ (ask n false) (evidenceQuestions iq fs hz step elements element-count fits fit-count (length work))
+  pub evidence-number : (n : ℕ) (lent : List Float) → refused n lent ≡ evidenceRule iq fs hz step elements element-count fits fit-count work → List·Memᴰ (ask n false) (evidenceQuestions iq fs hz step elements element-count fits fit-count (length work))
   unfolding evidenceRule
   evidence-number n lent e = refused-asked (evidenceQuestions iq fs hz step elements element-count fits fit-count (length work)) _ _ n lent e
 

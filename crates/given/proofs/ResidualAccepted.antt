@@ -48,12 +48,12 @@ residual-result r s v w a b = rw (a, b)
 -- ---- what its promise says of a refusal
 
 module _ (iq : List Float) (fs hz step : Float) (elements : List Float) (element-count : ℕ) (fits : List Float) (fit-count : ℕ) (work : List Float) where
-  pub residual-refused : (n : ℕ) (lent : List (List Float)) → refused n lent ≡ residualRule iq fs hz step elements element-count fits fit-count work → n ≡ 0 → ⊥
+  pub residual-refused : (n : ℕ) (lent : List Float) → refused n lent ≡ residualRule iq fs hz step elements element-count fits fit-count work → n ≡ 0 → ⊥
   unfolding residualRule
   residual-refused n lent e = refused-by _ _ _ n lent e
 
   -- its number is that of a question it asks, answered no
-  pub residual-number : (n : ℕ) (lent : List (List Float)) → refused n lent ≡ residualRule iq fs hz step elements element-count fits fit-count work → List·Memᴰ (ask n false) (residualQuestions iq fs hz step elements element-count fits fit-count (length work))
+  pub residual-number : (n : ℕ) (lent : List Float) → refused n lent ≡ residualRule iq fs hz step elements element-count fits fit-count work → List·Memᴰ (ask n false) (residualQuestions iq fs hz step elements element-count fits fit-count (length work))
   unfolding residualRule
   residual-number n lent e = refused-asked (residualQuestions iq fs hz step elements element-count fits fit-count (length work)) _ _ n lent e
 

@@ -31,13 +31,13 @@ subtract-accepted buf fs hz step elements element-count fits fit-count all =
 
 -- what its promise says of a refusal
 pub subtract-refused : (buf : List Float) (fs hz step : Float) (elements : List Float) (element-count : ℕ) (fits : List Float) (fit-count : ℕ)
-    (n : ℕ) (lent : List (List Float)) → refused n lent ≡ subtractRule buf fs hz step elements element-count fits fit-count → n ≡ 0 → ⊥
+    (n : ℕ) (lent : List Float) → refused n lent ≡ subtractRule buf fs hz step elements element-count fits fit-count → n ≡ 0 → ⊥
 unfolding subtractRule
 subtract-refused buf fs hz step elements element-count fits fit-count n lent e = refused-by _ _ _ n lent e
 
 module _ (buf : List Float) (fs hz step : Float) (elements : List Float) (element-count : ℕ) (fits : List Float) (fit-count : ℕ) where
   -- its number is that of a question it asks, answered no
-  pub subtract-number : (n : ℕ) (lent : List (List Float)) → refused n lent ≡ subtractRule buf fs hz step elements element-count fits fit-count → List·Memᴰ (ask n false) (subtractQuestions buf fs hz step elements element-count fits fit-count)
+  pub subtract-number : (n : ℕ) (lent : List Float) → refused n lent ≡ subtractRule buf fs hz step elements element-count fits fit-count → List·Memᴰ (ask n false) (subtractQuestions buf fs hz step elements element-count fits fit-count)
   unfolding subtractRule
   subtract-number n lent e = refused-asked (subtractQuestions buf fs hz step elements element-count fits fit-count) _ _ n lent e
 

@@ -14,6 +14,7 @@ use Rattle.given.specs.declared.blocks.BlockClasses.{BlockClasses}
 use Rattle.given.specs.declared.blocks.ClassesAnswer.{ClassesAnswer}
 use Rattle.given.specs.declared.blocks.ClassesAnswer.the-variants.{Refused, Done}
 use Rattle.questions.specs.Answers.{Outcome, accepted, refused, byNumber}
+use Rattle.questions.specs.Refusals.{REFUSED_RATE, REFUSED_COUNT, REFUSED_PLACES, REFUSED_GIVEN}
 use Rattle.questions.specs.Questions.{Asked, ask, firstNo, countOk, placesOk, estimateOk}
 
 -- blocks of a recording that is lent nowhere, by its f32 count alone: n is half of it
@@ -24,8 +25,8 @@ blocksIn iq-len fs = blocksOf fs (iq-len / 2)
 -- is one number, and it needs one per block.
 abbrev pub classesQuestions : ℕ → Float → Float → Float → List Float → ℕ → List Float → ℕ → ℕ → List Asked
 classesQuestions iq-len fs hz step elements element-count fits fit-count places =
-    ask 1 (rateOk fs) ∷ ask 2 (countOk iq-len) ∷ ask 5 (placesOk (blocksIn iq-len fs) places)
-    ∷ ask 7 (estimateOk hz step elements element-count fits fit-count) ∷ []
+    ask REFUSED_RATE (rateOk fs) ∷ ask REFUSED_COUNT (countOk iq-len) ∷ ask REFUSED_PLACES (placesOk (blocksIn iq-len fs) places)
+    ∷ ask REFUSED_GIVEN (estimateOk hz step elements element-count fits fit-count) ∷ []
 
 -- The number of blocks and how many have each class, and the numbers of the classes that the list hands out.
 pub record ClassesResult : Type 0 where
@@ -33,8 +34,8 @@ pub record ClassesResult : Type 0 where
   pub classes : Handed Float
 
 -- the number and the result of each answer, with what the lent slice then holds
-abbrev pub classesOutcome : ClassesAnswer → List Float → Outcome ClassesResult
-classesOutcome (Refused n) classes = refused n (classes ∷ [])
+abbrev pub classesOutcome : ClassesAnswer → List Float → Outcome (List Float) ClassesResult
+classesOutcome (Refused n) classes = refused n classes
 classesOutcome (Done b) classes = accepted (record { blocks = b; classes = handedNumbers classes (b .blocks) })
 
 -- the class of each block, by the given elements and fits; the carrier and the carrier step have no part in it
@@ -49,11 +50,11 @@ blockClassesOf iq-len fs elements element-count fits fit-count =
 
 -- The first no is the result, and nothing is written; else the counts, and in the list each block's class by its
 -- number.
-unfoldable pub classesRule : ℕ → Float → Float → Float → List Float → ℕ → List Float → ℕ → List Float → Outcome ClassesResult
+unfoldable pub classesRule : ℕ → Float → Float → Float → List Float → ℕ → List Float → ℕ → List Float → Outcome (List Float) ClassesResult
 classesRule iq-len fs hz step elements element-count fits fit-count classes =
     byNumber (firstNo (classesQuestions iq-len fs hz step elements element-count fits fit-count (length classes)))
     (record {
       blocks = blockClassesOf iq-len fs elements element-count fits fit-count;
       classes = handed 1 (codesOf (classesGiven iq-len fs elements element-count fits fit-count) (blocksIn iq-len fs)) classes;
     })
-    (classes ∷ [])
+    classes

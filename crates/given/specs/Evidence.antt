@@ -12,12 +12,13 @@ use Rattle.measure.specs.Evidence.{evidenceCheckOf}
 use Rattle.given.specs.declared.evidence.EvidenceAnswer.{EvidenceAnswer}
 use Rattle.given.specs.declared.evidence.EvidenceAnswer.the-variants.{Refused, Done}
 use Rattle.questions.specs.Answers.{Outcome, accepted, refused, byNumber}
+use Rattle.questions.specs.Refusals.{REFUSED_WORK, REFUSED_GIVEN}
 use Rattle.questions.specs.Questions.{Asked, ask, firstNo, recordingQuestions, workOk, estimateOk}
 
 -- It asks 1, 2, 3, 6 and 7: of the recording, the work slice and the given estimate.
 abbrev pub evidenceQuestions : List Float → Float → Float → Float → List Float → ℕ → List Float → ℕ → ℕ → List Asked
 evidenceQuestions iq fs hz step elements element-count fits fit-count work =
-    recordingQuestions iq fs ++ (ask 6 (workOk (stepBlocks iq fs) work) ∷ ask 7 (estimateOk hz step elements element-count fits fit-count) ∷ [])
+    recordingQuestions iq fs ++ (ask REFUSED_WORK (workOk (stepBlocks iq fs) work) ∷ ask REFUSED_GIVEN (estimateOk hz step elements element-count fits fit-count) ∷ [])
 
 -- The evidence of a second carrier, and the length of the work slice.
 pub record EvidenceResult : Type 0 where
@@ -25,14 +26,14 @@ pub record EvidenceResult : Type 0 where
   pub work : ℕ
 
 -- the number and the result of each answer, with what the lent slice then holds
-abbrev pub evidenceOutcome : EvidenceAnswer → List Float → Outcome EvidenceResult
-evidenceOutcome (Refused n) work = refused n (work ∷ [])
+abbrev pub evidenceOutcome : EvidenceAnswer → List Float → Outcome (List Float) EvidenceResult
+evidenceOutcome (Refused n) work = refused n work
 evidenceOutcome (Done r) work = accepted (record { evidence = r; work = length work })
 
 -- The first no is the result, and nothing is written; else the evidence of a second carrier, at the estimate's
 -- carrier, elements and fits. The carrier step is asked about and has no part in it.
-unfoldable pub evidenceRule : List Float → Float → Float → Float → List Float → ℕ → List Float → ℕ → List Float → Outcome EvidenceResult
+unfoldable pub evidenceRule : List Float → Float → Float → Float → List Float → ℕ → List Float → ℕ → List Float → Outcome (List Float) EvidenceResult
 evidenceRule iq fs hz step elements element-count fits fit-count work =
     byNumber (firstNo (evidenceQuestions iq fs hz step elements element-count fits fit-count (length work)))
     (record { evidence = evidenceCheckOf iq fs hz (fitsIn fits fit-count) (elementsIn elements element-count); work = length work })
-    (work ∷ [])
+    work

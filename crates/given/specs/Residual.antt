@@ -12,12 +12,13 @@ use Rattle.measure.specs.Residual.{residualCheckOf}
 use Rattle.given.specs.declared.residual.ResidualAnswer.{ResidualAnswer}
 use Rattle.given.specs.declared.residual.ResidualAnswer.the-variants.{Refused, Done}
 use Rattle.questions.specs.Answers.{Outcome, accepted, refused, byNumber}
+use Rattle.questions.specs.Refusals.{REFUSED_WORK, REFUSED_GIVEN}
 use Rattle.questions.specs.Questions.{Asked, ask, firstNo, recordingQuestions, workOk, estimateOk}
 
 -- It asks 1, 2, 3, 6 and 7: of the recording, the work slice and the given estimate.
 abbrev pub residualQuestions : List Float → Float → Float → Float → List Float → ℕ → List Float → ℕ → ℕ → List Asked
 residualQuestions iq fs hz step elements element-count fits fit-count work =
-    recordingQuestions iq fs ++ (ask 6 (workOk (stepBlocks iq fs) work) ∷ ask 7 (estimateOk hz step elements element-count fits fit-count) ∷ [])
+    recordingQuestions iq fs ++ (ask REFUSED_WORK (workOk (stepBlocks iq fs) work) ∷ ask REFUSED_GIVEN (estimateOk hz step elements element-count fits fit-count) ∷ [])
 
 -- The residual check, and the length of the work slice.
 pub record ResidualResult : Type 0 where
@@ -25,14 +26,14 @@ pub record ResidualResult : Type 0 where
   pub work : ℕ
 
 -- the number and the result of each answer, with what the lent slice then holds
-abbrev pub residualOutcome : ResidualAnswer → List Float → Outcome ResidualResult
-residualOutcome (Refused n) work = refused n (work ∷ [])
+abbrev pub residualOutcome : ResidualAnswer → List Float → Outcome (List Float) ResidualResult
+residualOutcome (Refused n) work = refused n work
 residualOutcome (Done r) work = accepted (record { check = r; work = length work })
 
 -- The first no is the result, and nothing is written; else the residual check, at the estimate's carrier, elements and
 -- fits. The carrier step is asked about and has no part in it.
-unfoldable pub residualRule : List Float → Float → Float → Float → List Float → ℕ → List Float → ℕ → List Float → Outcome ResidualResult
+unfoldable pub residualRule : List Float → Float → Float → Float → List Float → ℕ → List Float → ℕ → List Float → Outcome (List Float) ResidualResult
 residualRule iq fs hz step elements element-count fits fit-count work =
     byNumber (firstNo (residualQuestions iq fs hz step elements element-count fits fit-count (length work)))
     (record { check = residualCheckOf iq fs hz (fitsIn fits fit-count) (elementsIn elements element-count); work = length work })
-    (work ∷ [])
+    work

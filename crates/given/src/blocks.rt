@@ -5,6 +5,10 @@ use classes::count_classes;
 use questions::class_places_ok;
 use questions::count_ok;
 use questions::estimate_ok;
+use questions::refusals::REFUSED_COUNT;
+use questions::refusals::REFUSED_GIVEN;
+use questions::refusals::REFUSED_PLACES;
+use questions::refusals::REFUSED_RATE;
 use questions::window_blocks;
 ghost use mathlib.Core.Path.{_≡_};
 ghost use Rattle.questions.specs.Questions.{firstNo};
@@ -37,13 +41,13 @@ fn classes_no(
     ensures { λ r. ⌜ r ≡ firstNo (classesQuestions «iq_len» fs «carrier_hz» «carrier_step_hz» (now (elements .entry)) «element_count» (now (fits .entry)) «fit_count» places) ⌝ }
 {
     if !row::rate_ok(fs) {
-        return 1;
+        return REFUSED_RATE;
     }
     if !count_ok(iq_len) {
-        return 2;
+        return REFUSED_COUNT;
     }
     if !class_places_ok(iq_len, fs, places) {
-        return 5;
+        return REFUSED_PLACES;
     }
     if !estimate_ok(
         carrier_hz,
@@ -53,7 +57,7 @@ fn classes_no(
         fits,
         fit_count,
     ) {
-        return 7;
+        return REFUSED_GIVEN;
     }
     0
 }

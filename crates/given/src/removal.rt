@@ -1,6 +1,7 @@
 // subtract, open to callers.
 use questions::estimate_ok;
 use questions::recording_no;
+use questions::refusals::REFUSED_GIVEN;
 ghost use mathlib.Core.Path.{_≡_};
 ghost use Rattle.questions.specs.Questions.{firstNo};
 ghost use Rattle.given.specs.Removal.{subtractQuestions, subtractOutcome, subtractRule};
@@ -35,7 +36,7 @@ fn subtract_no(
         fits,
         fit_count,
     ) {
-        return 7;
+        return REFUSED_GIVEN;
     }
     0
 }

@@ -2,6 +2,8 @@
 use measure::ResidualCheck;
 use questions::estimate_ok;
 use questions::recording_no;
+use questions::refusals::REFUSED_GIVEN;
+use questions::refusals::REFUSED_WORK;
 use questions::work_ok;
 ghost use mathlib.Core.Path.{_≡_};
 ghost use Rattle.questions.specs.Questions.{firstNo};
@@ -31,7 +33,7 @@ fn residual_no(
         return no;
     }
     if !work_ok(iq, fs, work) {
-        return 6;
+        return REFUSED_WORK;
     }
     if !estimate_ok(
         carrier_hz,
@@ -41,7 +43,7 @@ fn residual_no(
         fits,
         fit_count,
     ) {
-        return 7;
+        return REFUSED_GIVEN;
     }
     0
 }

@@ -37,31 +37,31 @@ work-room b len h = leb-true (4 * b) len h
 
 -- ---- the two ways out of a call
 
-pub refuses : {A : Type 0} (first : ℕ) (result : A) (lent : List (List Float)) (n : ℕ) → n ≡ first → (n ≡ 0 → ⊥)
+pub refuses : {L A : Type 0} (first : ℕ) (result : A) (lent : L) (n : ℕ) → n ≡ first → (n ≡ 0 → ⊥)
     → refused n lent ≡ byNumber first result lent
 unfolding byNumber
 refuses zero result lent n e h = absurd (h e)
 refuses (suc first) result lent n e h = ap (λ k. refused k lent) e
 
-pub accepts : {A : Type 0} (first : ℕ) (result : A) (lent : List (List Float)) (n : ℕ) (r : A) → n ≡ first → n ≡ 0 → r ≡ result
+pub accepts : {L A : Type 0} (first : ℕ) (result : A) (lent : L) (n : ℕ) (r : A) → n ≡ first → n ≡ 0 → r ≡ result
     → accepted r ≡ byNumber first result lent
 unfolding byNumber
 accepts first result lent n r e h q = let none : first ≡ 0 = omega arith in rw (none, q)
 
 -- and what they show: a refusal's number is not 0 and is the first no's, and of an accepted call every answer was yes
-pub refused-by : {A : Type 0} (first : ℕ) (result : A) (lent : List (List Float)) (n : ℕ) (l : List (List Float))
+pub refused-by : {L A : Type 0} (first : ℕ) (result : A) (lent : L) (n : ℕ) (l : L)
     → refused n l ≡ byNumber first result lent → n ≡ 0 → ⊥
 unfolding byNumber
 refused-by zero result lent n l e h = let never : _≡_ {A = ℕ} 0 1 = cc in omega arith
 refused-by (suc first) result lent n l e h = let same : n ≡ suc first = cc in omega arith
 
-pub refused-first : {A : Type 0} (first : ℕ) (result : A) (lent : List (List Float)) (n : ℕ) (l : List (List Float))
+pub refused-first : {L A : Type 0} (first : ℕ) (result : A) (lent : L) (n : ℕ) (l : L)
     → refused n l ≡ byNumber first result lent → n ≡ first
 unfolding byNumber
 refused-first zero result lent n l e = let never : _≡_ {A = ℕ} 0 1 = cc in absurd (omega arith)
 refused-first (suc first) result lent n l e = cc
 
-pub accepted-by : {A : Type 0} (first : ℕ) (result : A) (lent : List (List Float)) (r : A) → accepted r ≡ byNumber first result lent
+pub accepted-by : {L A : Type 0} (first : ℕ) (result : A) (lent : L) (r : A) → accepted r ≡ byNumber first result lent
     → (first ≡ 0) × (r ≡ result)
 unfolding byNumber
 accepted-by zero result lent r e = (refl, cc)
@@ -69,7 +69,7 @@ accepted-by (suc first) result lent r e = let never : _≡_ {A = ℕ} 0 1 = cc i
 
 -- ---- of any call, by its questions
 
-module _ {A : Type 0} (qs : List Asked) (result : A) (lent : List (List Float)) (n : ℕ) (l : List (List Float)) (e : refused n l ≡ byNumber (firstNo qs) result lent) where
+module _ {L A : Type 0} (qs : List Asked) (result : A) (lent : L) (n : ℕ) (l : L) (e : refused n l ≡ byNumber (firstNo qs) result lent) where
   is-first : n ≡ firstNo qs
   is-first = refused-first _ result lent n l e
 

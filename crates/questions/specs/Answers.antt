@@ -1,17 +1,16 @@
 -- What a call answers, and what it leaves in what it was lent (01, the end of "Questions"). Definitions only.
 use Prim.Native.Nat.{ℕ, zero, suc}
-use mathlib.Core.List.{List}
-use lib.Ieee.{Float}
 
 -- An accepted call has its result, of type A: its values, and what each list that it fills hands out. Two things are
 -- free, the work slice and list places past the count; of both the result has the length.
--- A refused call has its number, which is not 0, and what every lent slice then holds.
-pub data Outcome (A : Type 0) : Type 0 where
-  accepted : A → Outcome A
-  refused : ℕ → List (List Float) → Outcome A
+-- A refused call has its number, which is not 0, and what every lent slice then holds, of type L: slices of any kind of
+-- number, side by side.
+pub data Outcome (L A : Type 0) : Type 0 where
+  accepted : A → Outcome L A
+  refused : ℕ → L → Outcome L A
 
 -- By the number of the first no: 0 accepts, with the result; any other refuses, with the lent slices. A refusal returns
 -- nothing further and writes nothing.
-unfoldable pub byNumber : {A : Type 0} → ℕ → A → List (List Float) → Outcome A
+unfoldable pub byNumber : {L A : Type 0} → ℕ → A → L → Outcome L A
 byNumber zero result lent = accepted result
 byNumber (suc n) result lent = refused (suc n) lent

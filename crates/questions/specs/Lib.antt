@@ -1,3 +1,4 @@
 -- What the contracts of `questions` cite, and what every call answers.
+pub mod Refusals
 pub mod Questions
 pub mod Answers

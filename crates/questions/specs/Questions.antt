@@ -17,6 +17,7 @@ use Rattle.elements.specs.declared.element.KeyedElement.{KeyedElement}
 use Rattle.elements.specs.Element.{ELEMENT, elementAt}
 use Rattle.fits.specs.declared.fit.ElementFit.{ElementFit}
 use Rattle.fits.specs.List.{FIT, fitAt}
+use Rattle.questions.specs.Refusals.{REFUSED_RATE, REFUSED_COUNT, REFUSED_SAMPLE}
 
 -- a question with its number, and whether the answer is yes
 pub data Asked : Type 0 where
@@ -33,7 +34,7 @@ countOk n = eqb (n % 2) 0 && leb n 2097152
 
 -- Every call that is lent a recording asks 1 to 3 first; what it asks then stands in its own file.
 abbrev pub recordingQuestions : List Float → Float → List Asked
-recordingQuestions iq fs = ask 1 (rateOk fs) ∷ ask 2 (countOk (length iq)) ∷ ask 3 (allFinite iq) ∷ []
+recordingQuestions iq fs = ask REFUSED_RATE (rateOk fs) ∷ ask REFUSED_COUNT (countOk (length iq)) ∷ ask REFUSED_SAMPLE (allFinite iq) ∷ []
 
 -- 4. Is the hint or the carrier finite, of size at most fs/2?
 unfoldable pub carrierOk : Float → Float → Bool

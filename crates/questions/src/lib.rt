@@ -1,11 +1,16 @@
 // 01's questions, each once: yes or no; 1 and 3 are answered by crate row. A call, in a crate above, asks those about
 // what it is given, in the order of its own file; callers call `cancel`, which does not hand the questions on.
+pub mod refusals;
+
 use elements::ELEMENT;
 use elements::KeyedElement;
 use elements::element_at;
 use fits::ElementFit;
 use fits::FIT;
 use fits::fit_at;
+use refusals::REFUSED_COUNT;
+use refusals::REFUSED_RATE;
+use refusals::REFUSED_SAMPLE;
 use row::edge_step;
 use row::step_blocks;
 ghost use mathlib.Core.Path.{_≡_};
@@ -20,13 +25,13 @@ pub fn recording_no(iq: &[f32], fs: f64) -> u64
     ensures { λ r. ⌜ r ≡ firstNo (recordingQuestions (now (iq .entry)) fs) ⌝ }
 {
     if !row::rate_ok(fs) {
-        return 1;
+        return REFUSED_RATE;
     }
     if !count_ok(iq.len()) {
-        return 2;
+        return REFUSED_COUNT;
     }
     if !row::all_finite(iq) {
-        return 3;
+        return REFUSED_SAMPLE;
     }
     0
 }

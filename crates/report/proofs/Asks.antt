@@ -26,6 +26,7 @@ use Rattle.engine.specs.declared.run.Figures.{Figures}
 use Rattle.engine.specs.Run.{runFigures}
 use Rattle.cancel.specs.declared.running.RunAnswer.the-variants.{Refused, Done}
 use Rattle.questions.specs.Answers.{refused, accepted, byNumber}
+use Rattle.questions.specs.Refusals.{REFUSED_COUNT, REFUSED_SAMPLE}
 use Rattle.questions.specs.Questions.{ask, firstNo, countOk, carrierOk, placesOk, workOk}
 use Rattle.cancel.specs.Running.{runQuestions, RunResult, runRule}
 use Rattle.cancel.proofs.RunAccepted.{run-done}
@@ -68,7 +69,7 @@ module _ (iq : List Float) (even : length iq % 2 ≡ 0) (few : length iq ≤ 409
   work-yes n h = let blocks = blocks-few iq few in le-leb (4 * stepBlocks iq RATE) n (omega arith)
 
   only-third : (elements fits work : ℕ) → 4096 ≤ elements → 8192 ≤ fits → 8192 ≤ work
-      → firstNo (runQuestions iq RATE HINT elements fits work) ≡ firstNo (ask 3 (allFinite iq) ∷ [])
+      → firstNo (runQuestions iq RATE HINT elements fits work) ≡ firstNo (ask REFUSED_SAMPLE (allFinite iq) ∷ [])
   unfolding firstNo
   only-third elements fits work a b c =
       let places : 1024 ≤ elements / ELEMENT = omega arith in
@@ -77,7 +78,7 @@ module _ (iq : List Float) (even : length iq % 2 ≡ 0) (few : length iq ≤ 409
 
 -- ---- the two answers
 
-refused-first : {A : Type 0} (first : ℕ) (result : A) (lent : List (List Float)) (n : ℕ) (l : List (List Float)) (iq : List Float) → refused n l ≡ byNumber first result lent → answered first iq ≡ refusal n
+refused-first : {L A : Type 0} (first : ℕ) (result : A) (lent : L) (n : ℕ) (l : L) (iq : List Float) → refused n l ≡ byNumber first result lent → answered first iq ≡ refusal n
 unfolding byNumber answered
 refused-first zero result lent n l iq e = let never : _≡_ {A = ℕ} 0 1 = cc in absurd (omega arith)
 refused-first (suc first) result lent n l iq e = let same : suc first ≡ n = cc in ap refusal same
@@ -94,13 +95,13 @@ module _ (iq : List Float) (fs hint : Float) (elements fits work : List Float) w
     pub work-numbers : 8192 ≤ length work
 
 module _ {iq : List Float} {fs hint : Float} {elements fits work : List Float} where
-  third : Lent iq fs hint elements fits work → firstNo (runQuestions iq fs hint (length elements) (length fits) (length work)) ≡ firstNo (ask 3 (allFinite iq) ∷ [])
+  third : Lent iq fs hint elements fits work → firstNo (runQuestions iq fs hint (length elements) (length fits) (length work)) ≡ firstNo (ask REFUSED_SAMPLE (allFinite iq) ∷ [])
   third l =
       rw (l .is-rate, l .is-hint)
       (only-third iq (l .even) (l .few) (length elements) (length fits) (length work) (l .elements-places) (l .fits-places) (l .work-numbers))
 
-  pub refused-is : (n : ℕ) (lent : List (List Float)) → refused n lent ≡ runRule iq fs hint elements fits work → Lent iq fs hint elements fits work
-      → answered (firstNo (ask 3 (allFinite iq) ∷ [])) iq ≡ refusal n
+  pub refused-is : (n : ℕ) (lent : List Float × List Float × List Float × List Float) → refused n lent ≡ runRule iq fs hint elements fits work → Lent iq fs hint elements fits work
+      → answered (firstNo (ask REFUSED_SAMPLE (allFinite iq) ∷ [])) iq ≡ refusal n
   unfolding runRule
   refused-is n lent e l = ap (λ (k : ℕ). answered k iq) (sym (third l)) ∙ refused-first _ _ _ n lent iq e
 
@@ -115,10 +116,10 @@ module _ {iq : List Float} {fs hint : Float} {elements fits work : List Float} w
         elements-read els elements (f .estimate .found .listed) (strongElements iq fs hint) (sym is-els ∙ run-done iq fs hint elements fits work q e .3)
         ∙ rw (l .is-rate, l .is-hint)
 
-    none-first : firstNo (ask 3 (allFinite iq) ∷ []) ≡ 0
+    none-first : firstNo (ask REFUSED_SAMPLE (allFinite iq) ∷ []) ≡ 0
     none-first = sym (third l) ∙ run-done iq fs hint elements fits work q e .0
 
-    pub done-is : answered (firstNo (ask 3 (allFinite iq) ∷ [])) iq ≡ runLines f (elementsIn els (f .estimate .found .listed))
+    pub done-is : answered (firstNo (ask REFUSED_SAMPLE (allFinite iq) ∷ [])) iq ≡ runLines f (elementsIn els (f .estimate .found .listed))
     unfolding answered
     done-is = rw (none-first, elements-are) (ap (λ (g : Figures). runLines g (strongElements iq RATE HINT)) (sym figures-are))
 
@@ -134,21 +135,21 @@ module _ {iq : List Float} {fs hint : Float} {elements fits work : List Float} w
         → (ELEMENT * f .estimate .found .listed ≤ length els) × (length (runLines f (elementsIn els (f .estimate .found .listed))) ≤ length out)
     done-room out places room =
         let few-listed = done-listed in
-        let most = answered-most (firstNo (ask 3 (allFinite iq) ∷ [])) iq (l .few) in
+        let most = answered-most (firstNo (ask REFUSED_SAMPLE (allFinite iq) ∷ [])) iq (l .few) in
         let same = ap length done-is in
         (omega arith, omega arith)
 
 -- ---- the report
 
-pub report-refused : (bytes : List ℕ) → bytesOk (length bytes) ≡ false → reportOf bytes ≡ refusal 2
+pub report-refused : (bytes : List ℕ) → bytesOk (length bytes) ≡ false → reportOf bytes ≡ refusal REFUSED_COUNT
 unfolding reportOf firstNo answered
 report-refused bytes h = rw h
 
 -- of more bytes than a recording may have
-pub report-full : (bytes : List ℕ) → INPUT ≤ length bytes → reportOf bytes ≡ refusal 2
+pub report-full : (bytes : List ℕ) → INPUT ≤ length bytes → reportOf bytes ≡ refusal REFUSED_COUNT
 report-full bytes h = report-refused bytes (too-many (length bytes) h)
 
-pub report-answered : (bytes : List ℕ) → bytesOk (length bytes) ≡ true → reportOf bytes ≡ answered (firstNo (ask 3 (allFinite (recordingOf bytes)) ∷ [])) (recordingOf bytes)
+pub report-answered : (bytes : List ℕ) → bytesOk (length bytes) ≡ true → reportOf bytes ≡ answered (firstNo (ask REFUSED_SAMPLE (allFinite (recordingOf bytes)) ∷ [])) (recordingOf bytes)
 unfolding reportOf firstNo
 report-answered bytes h = rw h
 

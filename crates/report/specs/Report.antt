@@ -8,6 +8,7 @@ use Rattle.lists.specs.Firsts.{firsts}
 use Rattle.row.specs.Samples.{allFinite}
 use Rattle.fits.specs.Estimate.{strongElements}
 use Rattle.engine.specs.Run.{runFigures}
+use Rattle.questions.specs.Refusals.{REFUSED_COUNT, REFUSED_SAMPLE}
 use Rattle.questions.specs.Questions.{Asked, ask, firstNo}
 use Rattle.format.specs.Ascii.{ascii}
 use Rattle.format.specs.Bytes.{bytesOk, partAt}
@@ -39,7 +40,7 @@ answered (suc n) iq = refusal (suc n)
 -- What the program asks of its input: 2, bytes a multiple of 8, at most 16,384; 3, every number finite. The others are
 -- about what it has itself, and each answer is yes.
 abbrev pub reportQuestions : List ℕ → List Asked
-reportQuestions bytes = ask 2 (bytesOk (length bytes)) ∷ ask 3 (allFinite (recordingOf bytes)) ∷ []
+reportQuestions bytes = ask REFUSED_COUNT (bytesOk (length bytes)) ∷ ask REFUSED_SAMPLE (allFinite (recordingOf bytes)) ∷ []
 
 unfoldable pub reportOf : List ℕ → List ℕ
 reportOf bytes = answered (firstNo (reportQuestions bytes)) (recordingOf bytes)

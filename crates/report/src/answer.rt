@@ -7,12 +7,14 @@ use format::bytes_ok;
 use format::line;
 use format::samples;
 use lines::run_lines;
+use questions::refusals::REFUSED_COUNT;
 ghost use mathlib.Core.Path.{_≡_};
 ghost use mathlib.Core.List.{[], _∷_, _++_};
 ghost use Prim.Native.Nat.{_%_, _≤_};
 ghost use lib.ListN.{length, take, drop};
 ghost use Rattle.io.specs.Counts.{Counts};
 ghost use Rattle.row.specs.Samples.{allFinite};
+ghost use Rattle.questions.specs.Refusals.{REFUSED_COUNT, REFUSED_SAMPLE};
 ghost use Rattle.questions.specs.Questions.{ask, firstNo};
 ghost use Rattle.format.specs.Text.{Appended};
 ghost use Rattle.format.specs.Bytes.{INPUT};
@@ -36,7 +38,7 @@ fn of_recording(iq: &mut [f32], out: &mut [u8]) -> usize
     requires { ⌜ length (now iq) ≤ 4096 ⌝ }
     requires { ⌜ ROOM ≤ length (now out) ⌝ }
     ensures { λ r. ⌜ Appended (now (out .entry)) 0
-        (answered (firstNo (ask 3 (allFinite (now (iq .entry))) ∷ [])) (now (iq .entry))) (now (out .exit)) r ⌝ }
+        (answered (firstNo (ask REFUSED_SAMPLE (allFinite (now (iq .entry))) ∷ [])) (now (iq .entry))) (now (out .exit)) r ⌝ }
 {
     let mut elements = [0.0f64; ELEMENT * 1024];
     let mut fits = [0.0f64; FIT * 1024];
@@ -54,7 +56,7 @@ pub fn report(bytes: &[u8], out: &mut [u8; ROOM]) -> usize
         × (now (out .exit) ≡ reportOf (now (bytes .entry)) ++ drop (length (reportOf (now (bytes .entry)))) (now (out .entry))) ⌝ }
 {
     if !bytes_ok(bytes.len()) {
-        return refused(out, 2);
+        return refused(out, REFUSED_COUNT);
     }
     let mut iq = [0.0f32; 4096];
     let parts = samples(bytes, &mut iq);
@@ -79,7 +81,7 @@ pub fn report_read(bytes: &[u8; INPUT], n: usize, out: &mut [u8; ROOM]) -> usize
     ensures { λ r. ⌜ Counts r (now (out .exit)) ⌝ }
     ensures { λ r. ⌜ (r ≡ length (reportOf (take n (now (bytes .entry)))))
         × (now (out .exit) ≡ reportOf (take n (now (bytes .entry))) ++ drop (length (reportOf (take n (now (bytes .entry))))) (now (out .entry))) ⌝ }
-    ensures { λ r. ⌜ (INPUT ≤ n → reportOf (take n (now (bytes .entry))) ≡ refusal 2) ⌝ }
+    ensures { λ r. ⌜ (INPUT ≤ n → reportOf (take n (now (bytes .entry))) ≡ refusal REFUSED_COUNT) ⌝ }
 {
     report_first(bytes, n, out)
 }

@@ -46,7 +46,7 @@ row-result r s h i v w a b c = rw (a, b, c)
 -- ---- what its promise says of a refusal, and of an accepted call
 
 module _ (iq : List Float) (fs hz : Float) (row work : List Float) where
-  pub row-refused : (n : ℕ) (lent : List (List Float)) → refused n lent ≡ rowRule iq fs hz row work → n ≡ 0 → ⊥
+  pub row-refused : (n : ℕ) (lent : List Float × List Float) → refused n lent ≡ rowRule iq fs hz row work → n ≡ 0 → ⊥
   unfolding rowRule
   row-refused n lent e = refused-by _ _ _ n lent e
 
@@ -63,7 +63,7 @@ module _ (iq : List Float) (fs hz : Float) (row work : List Float) where
   row-counted r e = ap (λ (a : AmplitudeRow). a .amplitudes) (row-done r e .0)
 
   -- its number is that of a question it asks, answered no
-  pub row-number : (n : ℕ) (lent : List (List Float)) → refused n lent ≡ rowRule iq fs hz row work → List·Memᴰ (ask n false) (rowQuestions iq fs hz (length row) (length work))
+  pub row-number : (n : ℕ) (lent : List Float × List Float) → refused n lent ≡ rowRule iq fs hz row work → List·Memᴰ (ask n false) (rowQuestions iq fs hz (length row) (length work))
   unfolding rowRule
   row-number n lent e = refused-asked (rowQuestions iq fs hz (length row) (length work)) _ _ n lent e
 

@@ -67,7 +67,7 @@ module _ (iq : List Float) (fs hint : Float) where
 -- ---- what its promise says of a refusal, and of an accepted call
 
 module _ (iq : List Float) (fs hint : Float) (elements fits work : List Float) where
-  pub estimate-refused : (n : ℕ) (lent : List (List Float)) → refused n lent ≡ estimateRule iq fs hint elements fits work → n ≡ 0 → ⊥
+  pub estimate-refused : (n : ℕ) (lent : List Float × List Float × List Float) → refused n lent ≡ estimateRule iq fs hint elements fits work → n ≡ 0 → ⊥
   unfolding estimateRule
   estimate-refused n lent e = refused-by _ _ _ n lent e
 
@@ -91,7 +91,7 @@ module _ (iq : List Float) (fs hint : Float) (elements fits work : List Float) w
       rw (told .1) (few, omega arith)
 
   -- its number is that of a question it asks, answered no
-  pub estimate-number : (n : ℕ) (lent : List (List Float)) → refused n lent ≡ estimateRule iq fs hint elements fits work → List·Memᴰ (ask n false) (estimateQuestions iq fs hint (length elements) (length fits) (length work))
+  pub estimate-number : (n : ℕ) (lent : List Float × List Float × List Float) → refused n lent ≡ estimateRule iq fs hint elements fits work → List·Memᴰ (ask n false) (estimateQuestions iq fs hint (length elements) (length fits) (length work))
   unfolding estimateRule
   estimate-number n lent e = refused-asked (estimateQuestions iq fs hint (length elements) (length fits) (length work)) _ _ n lent e
 

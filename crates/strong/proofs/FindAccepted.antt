@@ -46,7 +46,7 @@ find-result f g h i v w a b c = rw (a, b, c)
 -- ---- what its promise says of a refusal, and of an accepted call
 
 module _ (iq : List Float) (fs hz : Float) (elements work : List Float) where
-  pub find-refused : (n : ℕ) (lent : List (List Float)) → refused n lent ≡ findRule iq fs hz elements work → n ≡ 0 → ⊥
+  pub find-refused : (n : ℕ) (lent : List Float × List Float) → refused n lent ≡ findRule iq fs hz elements work → n ≡ 0 → ⊥
   unfolding findRule
   find-refused n lent e = refused-by _ _ _ n lent e
 
@@ -59,7 +59,7 @@ module _ (iq : List Float) (fs hz : Float) (elements work : List Float) where
       (told .0, ap (λ (r : FindResult). r .found) (told .1), ap (λ (r : FindResult). r .elements) (told .1))
 
   -- its number is that of a question it asks, answered no
-  pub find-number : (n : ℕ) (lent : List (List Float)) → refused n lent ≡ findRule iq fs hz elements work → List·Memᴰ (ask n false) (findQuestions iq fs hz (length elements) (length work))
+  pub find-number : (n : ℕ) (lent : List Float × List Float) → refused n lent ≡ findRule iq fs hz elements work → List·Memᴰ (ask n false) (findQuestions iq fs hz (length elements) (length work))
   unfolding findRule
   find-number n lent e = refused-asked (findQuestions iq fs hz (length elements) (length work)) _ _ n lent e
 

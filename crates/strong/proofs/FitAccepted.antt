@@ -51,7 +51,7 @@ fit-result m n h i v w a b c = rw (a, b, c)
 -- ---- what its promise says of a refusal, and of an accepted call
 
 module _ (iq : List Float) (fs hz : Float) (elements : List Float) (count : ℕ) (fits work : List Float) where
-  pub fit-refused : (n : ℕ) (lent : List (List Float)) → refused n lent ≡ fitRule iq fs hz elements count fits work → n ≡ 0 → ⊥
+  pub fit-refused : (n : ℕ) (lent : List Float × List Float) → refused n lent ≡ fitRule iq fs hz elements count fits work → n ≡ 0 → ⊥
   unfolding fitRule
   fit-refused n lent e = refused-by _ _ _ n lent e
 
@@ -64,7 +64,7 @@ module _ (iq : List Float) (fs hz : Float) (elements : List Float) (count : ℕ)
       (told .0, ap (λ (r : FitResult). r .fitted) (told .1), ap (λ (r : FitResult). r .fits) (told .1))
 
   -- its number is that of a question it asks, answered no
-  pub fit-number : (n : ℕ) (lent : List (List Float)) → refused n lent ≡ fitRule iq fs hz elements count fits work → List·Memᴰ (ask n false) (fitQuestions iq fs hz elements count (length fits) (length work))
+  pub fit-number : (n : ℕ) (lent : List Float × List Float) → refused n lent ≡ fitRule iq fs hz elements count fits work → List·Memᴰ (ask n false) (fitQuestions iq fs hz elements count (length fits) (length work))
   unfolding fitRule
   fit-number n lent e = refused-asked (fitQuestions iq fs hz elements count (length fits) (length work)) _ _ n lent e
 

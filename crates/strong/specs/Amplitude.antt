@@ -12,13 +12,14 @@ use Rattle.elements.specs.Find.{amplitudeRowOf}
 use Rattle.strong.specs.declared.amplitude.RowAnswer.{RowAnswer}
 use Rattle.strong.specs.declared.amplitude.RowAnswer.the-variants.{Refused, Done}
 use Rattle.questions.specs.Answers.{Outcome, accepted, refused, byNumber}
+use Rattle.questions.specs.Refusals.{REFUSED_CARRIER, REFUSED_PLACES, REFUSED_WORK}
 use Rattle.questions.specs.Questions.{Asked, ask, firstNo, recordingQuestions, carrierOk, placesOk, workOk}
 
 -- It asks 1 to 6. A place of the list to be filled is one number, and it needs one per amplitude, B − 7.
 abbrev pub rowQuestions : List Float → Float → Float → ℕ → ℕ → List Asked
 rowQuestions iq fs hz row work =
     recordingQuestions iq fs
-    ++ (ask 4 (carrierOk fs hz) ∷ ask 5 (placesOk (rowLength iq fs) row) ∷ ask 6 (workOk (stepBlocks iq fs) work) ∷ [])
+    ++ (ask REFUSED_CARRIER (carrierOk fs hz) ∷ ask REFUSED_PLACES (placesOk (rowLength iq fs) row) ∷ ask REFUSED_WORK (workOk (stepBlocks iq fs) work) ∷ [])
 
 -- How many amplitudes there are and the threshold, the amplitudes that the list hands out, and the length of the work
 -- slice.
@@ -28,14 +29,14 @@ pub record RowResult : Type 0 where
   pub work : ℕ
 
 -- the number and the result of each answer, with what the lent slices then hold
-abbrev pub rowOutcome : RowAnswer → List Float → List Float → Outcome RowResult
-rowOutcome (Refused n) row work = refused n (row ∷ work ∷ [])
+abbrev pub rowOutcome : RowAnswer → List Float → List Float → Outcome (List Float × List Float) RowResult
+rowOutcome (Refused n) row work = refused n (row, work)
 rowOutcome (Done r) row work = accepted (record { row = r; amplitudes = handedNumbers row (r .amplitudes); work = length work })
 
 -- The first no is the result, and nothing is written; else the count and the threshold, and in the list the amplitude
 -- row.
-unfoldable pub rowRule : List Float → Float → Float → List Float → List Float → Outcome RowResult
+unfoldable pub rowRule : List Float → Float → Float → List Float → List Float → Outcome (List Float × List Float) RowResult
 rowRule iq fs hz row work =
     byNumber (firstNo (rowQuestions iq fs hz (length row) (length work)))
     (record { row = amplitudeRowOf iq fs hz; amplitudes = handed 1 (firsts (rowOf iq fs hz) (rowLength iq fs)) row; work = length work })
-    (row ∷ work ∷ [])
+    (row, work)

@@ -12,13 +12,14 @@ use Rattle.elements.specs.Find.{foundOf, elementsFound}
 use Rattle.strong.specs.declared.find.FindAnswer.{FindAnswer}
 use Rattle.strong.specs.declared.find.FindAnswer.the-variants.{Refused, Done}
 use Rattle.questions.specs.Answers.{Outcome, accepted, refused, byNumber}
+use Rattle.questions.specs.Refusals.{REFUSED_CARRIER, REFUSED_PLACES, REFUSED_WORK}
 use Rattle.questions.specs.Questions.{Asked, ask, firstNo, recordingQuestions, carrierOk, placesOk, workOk}
 
 -- It asks 1 to 6. The list to be filled needs floor(B/2) places.
 abbrev pub findQuestions : List Float → Float → Float → ℕ → ℕ → List Asked
 findQuestions iq fs hz elements work =
     let b = stepBlocks iq fs in
-    recordingQuestions iq fs ++ (ask 4 (carrierOk fs hz) ∷ ask 5 (placesOk (b / 2) (elements / ELEMENT)) ∷ ask 6 (workOk b work) ∷ [])
+    recordingQuestions iq fs ++ (ask REFUSED_CARRIER (carrierOk fs hz) ∷ ask REFUSED_PLACES (placesOk (b / 2) (elements / ELEMENT)) ∷ ask REFUSED_WORK (workOk b work) ∷ [])
 
 -- The counts and the airtime, the elements that the list hands out, and the length of the work slice.
 pub record FindResult : Type 0 where
@@ -27,13 +28,13 @@ pub record FindResult : Type 0 where
   pub work : ℕ
 
 -- the number and the result of each answer, with what the lent slices then hold
-abbrev pub findOutcome : FindAnswer → List Float → List Float → Outcome FindResult
-findOutcome (Refused n) elements work = refused n (elements ∷ work ∷ [])
+abbrev pub findOutcome : FindAnswer → List Float → List Float → Outcome (List Float × List Float) FindResult
+findOutcome (Refused n) elements work = refused n (elements, work)
 findOutcome (Done f) elements work = accepted (record { found = f; elements = handedElements elements (f .listed); work = length work })
 
 -- The first no is the result, and nothing is written; else what is found, and the elements in the list.
-unfoldable pub findRule : List Float → Float → Float → List Float → List Float → Outcome FindResult
+unfoldable pub findRule : List Float → Float → Float → List Float → List Float → Outcome (List Float × List Float) FindResult
 findRule iq fs hz elements work =
     byNumber (firstNo (findQuestions iq fs hz (length elements) (length work)))
     (record { found = foundOf iq fs hz; elements = handed ELEMENT (elementsFound iq fs hz) elements; work = length work })
-    (elements ∷ work ∷ [])
+    (elements, work)

@@ -2,6 +2,9 @@
 use elements::AmplitudeRow;
 use questions::carrier_ok;
 use questions::recording_no;
+use questions::refusals::REFUSED_CARRIER;
+use questions::refusals::REFUSED_PLACES;
+use questions::refusals::REFUSED_WORK;
 use questions::row_places_ok;
 use questions::work_ok;
 ghost use mathlib.Core.Path.{_≡_};
@@ -23,13 +26,13 @@ fn row_no(iq: &[f32], fs: f64, carrier_hz: f64, row: usize, work: usize) -> u64
         return no;
     }
     if !carrier_ok(fs, carrier_hz) {
-        return 4;
+        return REFUSED_CARRIER;
     }
     if !row_places_ok(iq, fs, row) {
-        return 5;
+        return REFUSED_PLACES;
     }
     if !work_ok(iq, fs, work) {
-        return 6;
+        return REFUSED_WORK;
     }
     0
 }

@@ -5,6 +5,9 @@ use fits::FIT;
 use questions::carrier_ok;
 use questions::find_places_ok;
 use questions::recording_no;
+use questions::refusals::REFUSED_CARRIER;
+use questions::refusals::REFUSED_PLACES;
+use questions::refusals::REFUSED_WORK;
 use questions::work_ok;
 ghost use mathlib.Core.Path.{_≡_};
 ghost use Rattle.row.specs.Samples.{Singles};
@@ -25,16 +28,16 @@ fn estimate_no(iq: &[f32], fs: f64, hint_hz: f64, elements: usize, fits: usize, 
         return no;
     }
     if !carrier_ok(fs, hint_hz) {
-        return 4;
+        return REFUSED_CARRIER;
     }
     if !find_places_ok(iq, fs, elements / ELEMENT) {
-        return 5;
+        return REFUSED_PLACES;
     }
     if !find_places_ok(iq, fs, fits / FIT) {
-        return 5;
+        return REFUSED_PLACES;
     }
     if !work_ok(iq, fs, work) {
-        return 6;
+        return REFUSED_WORK;
     }
     0
 }

@@ -4,6 +4,9 @@ use elements::Found;
 use questions::carrier_ok;
 use questions::find_places_ok;
 use questions::recording_no;
+use questions::refusals::REFUSED_CARRIER;
+use questions::refusals::REFUSED_PLACES;
+use questions::refusals::REFUSED_WORK;
 use questions::work_ok;
 ghost use mathlib.Core.Path.{_≡_};
 ghost use Rattle.row.specs.Samples.{Singles};
@@ -24,13 +27,13 @@ fn find_no(iq: &[f32], fs: f64, carrier_hz: f64, elements: usize, work: usize) -
         return no;
     }
     if !carrier_ok(fs, carrier_hz) {
-        return 4;
+        return REFUSED_CARRIER;
     }
     if !find_places_ok(iq, fs, elements / ELEMENT) {
-        return 5;
+        return REFUSED_PLACES;
     }
     if !work_ok(iq, fs, work) {
-        return 6;
+        return REFUSED_WORK;
     }
     0
 }

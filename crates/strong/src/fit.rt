@@ -4,6 +4,10 @@ use questions::carrier_ok;
 use questions::elements_ok;
 use questions::given_places_ok;
 use questions::recording_no;
+use questions::refusals::REFUSED_CARRIER;
+use questions::refusals::REFUSED_GIVEN;
+use questions::refusals::REFUSED_PLACES;
+use questions::refusals::REFUSED_WORK;
 use questions::work_ok;
 ghost use mathlib.Core.Path.{_≡_};
 ghost use Rattle.questions.specs.Questions.{firstNo};
@@ -31,16 +35,16 @@ fn fit_no(
         return no;
     }
     if !carrier_ok(fs, carrier_hz) {
-        return 4;
+        return REFUSED_CARRIER;
     }
     if !given_places_ok(count, fits / FIT) {
-        return 5;
+        return REFUSED_PLACES;
     }
     if !work_ok(iq, fs, work) {
-        return 6;
+        return REFUSED_WORK;
     }
     if !elements_ok(elements, count) {
-        return 7;
+        return REFUSED_GIVEN;
     }
     0
 }

@@ -1,6 +1,5 @@
 -- `given::block_classes` meets its contract: the first no is the answer, and where there is none, the classes that the
 -- work below labels. Assumes nothing.
-use mathlib.Core.List.{[], _∷_}
 use native.Mathlib.Omega.{arith}
 use mathlib.Core.Path.{sym, _∙_}
 use denote.Ref.{now}
@@ -47,7 +46,7 @@ returns-2 c =
     let labelled = lent .before in
     let counted = labelled .before .before in
     let s = counted .before .before .before .before .before .before in
-    accepts _ _ (now (s .args .classes) ∷ []) _ _ (counted .before .before .classes-no .ensures) (counted .before .if1 .left)
+    accepts _ _ (now (s .args .classes)) _ _ (counted .before .before .classes-no .ensures) (counted .before .if1 .left)
     (classes-made (s .args .iq-len) (s .args .fs) (now (s .args .elements)) (s .args .element-count) (now (s .args .fits)) (s .args .fit-count) _ _ (now (s .args .classes)) _ (counted .window-blocks .ensures) (labelled .classify-blocks .ensures) (c .count-classes .ensures) (lent .classes .given .0))
 
 pub block-classes-spec : {M : Type 1} → statement M
