@@ -2,11 +2,13 @@
 
 -- RunAccepted     the run's result by its parts, `run-result`; what its promise says: `run-refused`, `run-done`; a
 --             refusal's number: `run-number`; with a yes to each question it is done: `run-accepts`
--- RunPromises     the user's third demand, of every accepted run: `carrier-is`, `step-is`, `found-is`,
+-- RunOfBuffer     the user's third demand, of the run of any buffer: `carrier-is`, `step-is`, `found-is`,
 --             `fits-of-listed`, `fits-each`, `fitted-counted`, `skipped-is`, `samples-is`, `window-is`;
 --             `key-downs-balance`, `listed-balance`, `blocks-balance`; `blocks-are`, `classes-are`, `residual-is`,
 --             `evidence-is`, `hypothesis-is`; `counts-exactly`, `counts-nothing`; `list-exactly`, `list-nothing`;
---             `ranked-plain`; `taken-exactly`, `kept-unchanged`, `taken-leaves`, `outside-unchanged`;
---             `same-residual`, `same-evidence`, `same-hypothesis`
+--             `ranked-plain`, `side-plain`, `inner-plain`; `taken-exactly`, `kept-unchanged`, `taken-leaves`,
+--             `outside-unchanged`; `same-residual`, `same-evidence`, `same-hypothesis`
+-- RunPromises     the same, under the same names, of every accepted run: of what it answers and leaves
 pub mod RunAccepted
+pub mod RunOfBuffer
 pub mod RunPromises
