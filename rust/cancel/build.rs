@@ -9,7 +9,8 @@ use std::{env, fs};
 /// Names the folder that the library was installed into.
 const PREFIX: &str = "CANCEL_PREFIX";
 
-/// In an install folder, the library and beside it the commit that it was made from and its digest.
+/// In an install folder, the interface, the library, and beside it the commit that it was made from and its digest.
+const HEADER: &str = "include/cancel.h";
 const LIBRARY: &str = "lib/libcancel.a";
 const COMMIT: &str = "lib/libcancel.commit";
 const SHA256: &str = "lib/libcancel.sha256";
@@ -27,12 +28,13 @@ fn link() -> Result<(), String> {
     println!("cargo:rerun-if-env-changed=PKG_CONFIG_PATH");
     let prefix = prefix()?;
     let library = prefix.join(LIBRARY);
-    for file in [LIBRARY, COMMIT, SHA256] {
+    for file in [HEADER, LIBRARY, COMMIT, SHA256] {
         println!("cargo:rerun-if-changed={}", prefix.join(file).display());
     }
     println!("cargo:rustc-link-search=native={}", prefix.join("lib").display());
     println!("cargo:rustc-link-lib=static=cancel");
     println!("cargo:rustc-link-lib=m");
+    written_for(&prefix.join(HEADER))?;
     let sha256 = digest(&library)?;
     same(&prefix.join(SHA256), &sha256)?;
     println!("cargo:rustc-env=CANCEL_COMMIT={}", commit(&prefix.join(COMMIT)));
@@ -51,14 +53,46 @@ fn prefix() -> Result<PathBuf, String> {
         };
     }
     let known = Command::new("pkg-config").args(["--variable=prefix", "cancel"]).output();
-    let known =
-        known.ok().filter(|o| o.status.success()).map(|o| String::from_utf8_lossy(&o.stdout).trim().to_string());
+    let known = known.ok().filter(|o| o.status.success()).map(|o| String::from_utf8_lossy(&o.stdout).into_owned());
     known
+        .map(|printed| unescaped(printed.trim_end_matches('\n')))
         .into_iter()
         .chain(["/usr/local".to_string()])
         .map(PathBuf::from)
         .find(|p| p.join(LIBRARY).is_file())
         .ok_or_else(|| format!("libcancel.a was not found, by pkg-config or in /usr/local. {ADVICE}"))
+}
+
+/// What pkg-config printed, for a shell: a blank or another special sign has a backslash before it.
+fn unescaped(printed: &str) -> String {
+    let mut signs = printed.chars();
+    let mut plain = String::new();
+    while let Some(sign) = signs.next() {
+        plain.extend(if sign == '\\' { signs.next() } else { Some(sign) });
+    }
+    plain
+}
+
+/// Stops where the library's interface is not the one that this package was written for: the package's own version, or
+/// a later one with the same first number.
+fn written_for(header: &Path) -> Result<(), String> {
+    let text = fs::read_to_string(header).map_err(|e| format!("{}: {e}. {ADVICE}", header.display()))?;
+    let said = |part: &str| {
+        let line = text.lines().find_map(|l| l.strip_prefix("#define CANCEL_VERSION_")?.strip_prefix(part));
+        line.and_then(|number| number.trim().parse::<u32>().ok())
+    };
+    let own = |part: &str| env::var(format!("CARGO_PKG_VERSION_{part}")).ok().and_then(|number| number.parse().ok());
+    match (said("MAJOR"), said("MINOR"), own("MAJOR"), own("MINOR")) {
+        (Some(major), Some(minor), Some(own_major), Some(own_minor)) if major == own_major && minor >= own_minor => {
+            Ok(())
+        }
+        (Some(major), Some(minor), Some(own_major), Some(own_minor)) => Err(format!(
+            "{}: the library's interface is {major}.{minor}, and this package is written for {own_major}.{own_minor}. \
+             Take both of one release. {ADVICE}",
+            header.display()
+        )),
+        _ => Err(format!("{}: it does not say the interface's version. {ADVICE}", header.display())),
+    }
 }
 
 const ADVICE: &str = "In the repository's root, `./install --prefix DIR` builds it into DIR; \

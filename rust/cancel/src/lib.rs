@@ -26,20 +26,27 @@
 //! ```
 //!
 //! A recording is `&[Complex32]` and goes in without a copy: the library reads it, or writes it, where it stands.
+//!
+//! With the feature `serde`, records, answers, figures and the hypothesis can be written and read back. Formats that
+//! people read have what is not finite as "infinity", "-infinity" and "nan". (serde_json reads a number back to its last
+//! bit with its own feature `float_roundtrip`.)
 
 #![deny(unsafe_code, missing_docs)]
 
 mod answers;
 mod constants;
+mod figures;
 #[allow(unsafe_code)]
 mod linked;
+#[cfg(feature = "serde")]
+mod numbers;
 mod plain;
 mod records;
 mod refusal;
 mod rows;
 mod workspace;
 
-pub use answers::{Hypothesis, KeyDownCounts, ResidualCheck, Run, RunFigures, SecondCarrierEvidence};
+pub use answers::{ClassCounts, Hypothesis, KeyDownCounts, ResidualCheck, Run, RunFigures, SecondCarrierEvidence};
 pub use constants::*;
 pub use num_complex::{Complex32, Complex64};
 pub use plain::{
@@ -48,7 +55,15 @@ pub use plain::{
 pub use records::{ElementFit, KeyDown, KeyedElement, StrongEstimate};
 pub use refusal::Refusal;
 pub use rows::{amplitude_row, block_classes, AmplitudeRow, BlockClass};
-pub use workspace::{Estimate, Fitted, Found, Ran, Workspace};
+pub use workspace::{Blocks, Estimate, Fitted, Found, Ran, Row, Workspace};
+
+/// What the tests hold to `include/cancel.h`.
+#[doc(hidden)]
+pub mod held {
+    pub use crate::figures::FIGURES;
+    pub use crate::linked::{Declared, DECLARED};
+    pub use crate::records::RECORDS;
+}
 
 /// Which library this package was linked with.
 #[derive(Debug, Clone, Copy, PartialEq, Eq)]
@@ -61,3 +76,18 @@ pub struct Library {
 
 /// The library that this package was linked with.
 pub const LIBRARY: Library = Library { commit: env!("CANCEL_COMMIT"), sha256: env!("CANCEL_SHA256") };
+
+impl Library {
+    /// The interface's version as the library itself answers it, MAJOR and MINOR of its `include/cancel.h`. This
+    /// package is written for MAJOR 1 and a MINOR of at least 2, and its build asks the header for them.
+    ///
+    /// ```
+    /// let (major, minor) = cancel::LIBRARY.version();
+    /// assert!(major == 1 && minor >= 2);
+    /// ```
+    #[must_use]
+    pub fn version(&self) -> (u64, u64) {
+        let version = linked::version();
+        (version / 1000, version % 1000)
+    }
+}

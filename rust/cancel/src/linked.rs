@@ -1,441 +1,193 @@
 //! The calls of the static library, over slices. All that is unsafe in this package stands here.
 //!
-//! Each `unsafe` block is one call of a function that is proved, for every input, to read and write only what it is
-//! lent and to return. What is left to show is the caller's part, as `include/cancel.h` states it, and it is the same
-//! for all: pointers come from slices, so they are not null (not even of an empty slice), are aligned and stand for as
-//! many numbers as the length beside them says; a slice that is written is borrowed mutably, so it overlaps no other;
-//! and `figures` is an array of just so many numbers. `told` then turns the status into a `Result`.
+//! Each call is one line below: what it is called here and in include/cancel.h, what it is handed, and what it answers.
+//! The macro makes of it the declaration for C and a function over slices. The test header.rs holds the declarations to
+//! include/cancel.h.
 
+use crate::figures::{classes, classify, clean, estimate, evidence, find, fit, residual, row, run};
 use crate::refusal::Refusal;
 use num_complex::Complex32;
 
-extern "C" {
-    fn cancel_find_elements(
-        iq: *const f32,
-        iq_len: usize,
-        fs: f64,
-        carrier_hz: f64,
-        elements: *mut f64,
-        elements_len: usize,
-        work: *mut f64,
-        work_len: usize,
-        figures: *mut f64,
-    ) -> u64;
-    fn cancel_fit_elements(
-        iq: *const f32,
-        iq_len: usize,
-        fs: f64,
-        carrier_hz: f64,
-        elements: *const f64,
-        elements_len: usize,
-        element_count: usize,
-        fits: *mut f64,
-        fits_len: usize,
-        work: *mut f64,
-        work_len: usize,
-        figures: *mut f64,
-    ) -> u64;
-    fn cancel_estimate_strong(
-        iq: *const f32,
-        iq_len: usize,
-        fs: f64,
-        hint_hz: f64,
-        elements: *mut f64,
-        elements_len: usize,
-        fits: *mut f64,
-        fits_len: usize,
-        work: *mut f64,
-        work_len: usize,
-        figures: *mut f64,
-    ) -> u64;
-    fn cancel_residual_check(
-        iq: *const f32,
-        iq_len: usize,
-        fs: f64,
-        carrier_hz: f64,
-        carrier_step_hz: f64,
-        elements: *const f64,
-        elements_len: usize,
-        element_count: usize,
-        fits: *const f64,
-        fits_len: usize,
-        fit_count: usize,
-        work: *mut f64,
-        work_len: usize,
-        figures: *mut f64,
-    ) -> u64;
-    fn cancel_second_carrier_evidence(
-        iq: *const f32,
-        iq_len: usize,
-        fs: f64,
-        carrier_hz: f64,
-        carrier_step_hz: f64,
-        elements: *const f64,
-        elements_len: usize,
-        element_count: usize,
-        fits: *const f64,
-        fits_len: usize,
-        fit_count: usize,
-        work: *mut f64,
-        work_len: usize,
-        figures: *mut f64,
-    ) -> u64;
-    fn cancel_classify(
-        gap_blocks: u64,
-        hot_fraction: f64,
-        present: u64,
-        offset_hz: f64,
-        coherence: f64,
-        figures: *mut f64,
-    ) -> u64;
-    fn cancel_subtract(
-        buf: *mut f32,
-        buf_len: usize,
-        fs: f64,
-        carrier_hz: f64,
-        carrier_step_hz: f64,
-        elements: *const f64,
-        elements_len: usize,
-        element_count: usize,
-        fits: *const f64,
-        fits_len: usize,
-        fit_count: usize,
-    ) -> u64;
-    fn cancel_run(
-        buf: *mut f32,
-        buf_len: usize,
-        fs: f64,
-        hint_hz: f64,
-        elements: *mut f64,
-        elements_len: usize,
-        fits: *mut f64,
-        fits_len: usize,
-        work: *mut f64,
-        work_len: usize,
-        figures: *mut f64,
-    ) -> u64;
-    fn cancel_blocks(iq_len: usize, fs: f64) -> usize;
-    fn cancel_amplitude_row(
-        iq: *const f32,
-        iq_len: usize,
-        fs: f64,
-        carrier_hz: f64,
-        row: *mut f64,
-        row_len: usize,
-        work: *mut f64,
-        work_len: usize,
-        figures: *mut f64,
-    ) -> u64;
-    fn cancel_block_classes(
-        iq_len: usize,
-        fs: f64,
-        carrier_hz: f64,
-        carrier_step_hz: f64,
-        elements: *const f64,
-        elements_len: usize,
-        element_count: usize,
-        fits: *const f64,
-        fits_len: usize,
-        fit_count: usize,
-        classes: *mut f64,
-        classes_len: usize,
-        figures: *mut f64,
-    ) -> u64;
+/// Records that are given: a flat list, of which the first so many count.
+#[derive(Clone, Copy)]
+pub(crate) struct Records<'a> {
+    pub numbers: &'a [f64],
+    pub count: usize,
 }
 
-/// An estimate that is given: its lists, of which the first so many records count.
+/// An estimate that is given.
 pub(crate) struct Given<'a> {
     pub carrier_hz: f64,
     pub carrier_step_hz: f64,
-    pub elements: &'a [f64],
-    pub element_count: usize,
-    pub fits: &'a [f64],
-    pub fit_count: usize,
+    pub elements: Records<'a>,
+    pub fits: Records<'a>,
 }
 
-/// The numbers of a recording, real part then imaginary: `Complex` is `repr(C)` with just these two fields. The count
-/// cannot overflow, since a slice is at most `isize::MAX` bytes long.
-fn numbers(iq: &[Complex32]) -> (*const f32, usize) {
-    (iq.as_ptr().cast(), 2 * iq.len())
-}
-
-/// The same, to be written.
-fn numbers_mut(buf: &mut [Complex32]) -> (*mut f32, usize) {
-    (buf.as_mut_ptr().cast(), 2 * buf.len())
+/// A call as it is declared: its name, and the types of its parameters and of its result.
+pub struct Declared {
+    /// Its name in C.
+    pub name: &'static str,
+    /// The types of its parameters, as Rust writes them.
+    pub parameters: &'static [&'static str],
+    /// The type of its result.
+    pub result: &'static str,
 }
 
 /// The figures, if the status is 0, or else the refusal of that number.
 fn told<F>(status: u64, figures: F) -> Result<F, Refusal> {
     match status {
         0 => Ok(figures),
-        number => Err(Refusal::of_number(number).expect("the library refuses by the numbers 1 to 7")),
+        number => Err(Refusal::of_number(number).unwrap_or(Refusal::Unknown(number))),
     }
 }
 
-/// Key-downs, listed, short, airtime.
-pub(crate) fn find_elements(
-    iq: &[Complex32],
-    fs: f64,
-    carrier_hz: f64,
-    elements: &mut [f64],
-    work: &mut [f64],
-) -> Result<[f64; 4], Refusal> {
-    let (iq, iq_len) = numbers(iq);
-    let (elements, elements_len) = (elements.as_mut_ptr(), elements.len());
-    let (work, work_len) = (work.as_mut_ptr(), work.len());
-    let mut figures = [0.0; 4];
-    // Safety: every pointer is of a slice and beside its length; the written ones are borrowed mutably.
-    let status = unsafe {
-        cancel_find_elements(iq, iq_len, fs, carrier_hz, elements, elements_len, work, work_len, figures.as_mut_ptr())
+/// What a call is handed, as the lines below name it:
+///
+/// * recording, buffer: samples, read or written. `Complex` is `repr(C)` with just the real and the imaginary part, and
+///   a slice is at most `isize::MAX` bytes long, so that its numbers can be counted;
+/// * samples: how many there are of a recording that is not lent. More than can be counted in numbers are refused as
+///   much as the most that can;
+/// * number, whole: a value;
+/// * filled: a slice that is written; listed: records that are read; estimate: a given estimate; check: the figures of
+///   a residual check.
+///
+/// And what it answers: figures(N) or, where it has none, nothing, unless it refuses; sure(N) where it refuses nothing;
+/// plain(T) for a number that it returns.
+macro_rules! linked {
+    ($($(#[$doc:meta])* $name:ident = $call:ident($($handed:tt)*) -> $answer:ident $(($($of:tt)*))?;)*) => {
+        $(linked! {
+            @($answer $(($($of)*))?) ($(#[$doc])* $name $call) ($($handed)*) () () ()
+        })*
+
+        /// Every call as it is declared.
+        pub const DECLARED: &[Declared] = &[$($call::DECLARED),*];
     };
-    told(status, figures)
-}
 
-/// Fitted.
-pub(crate) fn fit_elements(
-    iq: &[Complex32],
-    fs: f64,
-    carrier_hz: f64,
-    elements: &[f64],
-    element_count: usize,
-    fits: &mut [f64],
-    work: &mut [f64],
-) -> Result<[f64; 1], Refusal> {
-    let (iq, iq_len) = numbers(iq);
-    let (fits, fits_len) = (fits.as_mut_ptr(), fits.len());
-    let (work, work_len) = (work.as_mut_ptr(), work.len());
-    let mut figures = [0.0; 1];
-    // Safety: every pointer is of a slice and beside its length; the written ones are borrowed mutably.
-    let status = unsafe {
-        cancel_fit_elements(
-            iq,
-            iq_len,
-            fs,
-            carrier_hz,
-            elements.as_ptr(),
-            elements.len(),
-            element_count,
-            fits,
-            fits_len,
-            work,
-            work_len,
-            figures.as_mut_ptr(),
-        )
+    // What is handed, one after the other: the parameter here, the types for C, the values for C.
+    (@$as:tt $of:tt ($x:ident: recording $(, $($more:tt)*)?) ($($p:tt)*) ($($k:ty,)*) ($($v:expr,)*)) => {
+        linked! { @$as $of ($($($more)*)?) ($($p)* $x: &[Complex32],)
+            ($($k,)* *const f32, usize,) ($($v,)* $x.as_ptr().cast(), 2 * $x.len(),) }
     };
-    told(status, figures)
-}
-
-/// Carrier, carrier step, key-downs, listed, short, airtime, fitted.
-pub(crate) fn estimate_strong(
-    iq: &[Complex32],
-    fs: f64,
-    hint_hz: f64,
-    elements: &mut [f64],
-    fits: &mut [f64],
-    work: &mut [f64],
-) -> Result<[f64; 7], Refusal> {
-    let (iq, iq_len) = numbers(iq);
-    let (elements, elements_len) = (elements.as_mut_ptr(), elements.len());
-    let (fits, fits_len) = (fits.as_mut_ptr(), fits.len());
-    let (work, work_len) = (work.as_mut_ptr(), work.len());
-    let mut figures = [0.0; 7];
-    // Safety: every pointer is of a slice and beside its length; the written ones are borrowed mutably.
-    let status = unsafe {
-        cancel_estimate_strong(
-            iq,
-            iq_len,
-            fs,
-            hint_hz,
-            elements,
-            elements_len,
-            fits,
-            fits_len,
-            work,
-            work_len,
-            figures.as_mut_ptr(),
-        )
+    (@$as:tt $of:tt ($x:ident: buffer $(, $($more:tt)*)?) ($($p:tt)*) ($($k:ty,)*) ($($v:expr,)*)) => {
+        linked! { @$as $of ($($($more)*)?) ($($p)* $x: &mut [Complex32],)
+            ($($k,)* *mut f32, usize,) ($($v,)* $x.as_mut_ptr().cast(), 2 * $x.len(),) }
     };
-    told(status, figures)
-}
-
-/// The five figures of the residual check.
-pub(crate) fn residual_check(
-    iq: &[Complex32],
-    fs: f64,
-    est: &Given<'_>,
-    work: &mut [f64],
-) -> Result<[f64; 5], Refusal> {
-    let (iq, iq_len) = numbers(iq);
-    let (work, work_len) = (work.as_mut_ptr(), work.len());
-    let mut figures = [0.0; 5];
-    // Safety: every pointer is of a slice and beside its length; the written ones are borrowed mutably.
-    let status = unsafe {
-        cancel_residual_check(
-            iq,
-            iq_len,
-            fs,
-            est.carrier_hz,
-            est.carrier_step_hz,
-            est.elements.as_ptr(),
-            est.elements.len(),
-            est.element_count,
-            est.fits.as_ptr(),
-            est.fits.len(),
-            est.fit_count,
-            work,
-            work_len,
-            figures.as_mut_ptr(),
-        )
+    (@$as:tt $of:tt ($x:ident: samples $(, $($more:tt)*)?) ($($p:tt)*) ($($k:ty,)*) ($($v:expr,)*)) => {
+        linked! { @$as $of ($($($more)*)?) ($($p)* $x: usize,)
+            ($($k,)* usize,) ($($v,)* $x.saturating_mul(2),) }
     };
-    told(status, figures)
-}
-
-/// The five figures of the evidence.
-pub(crate) fn second_carrier_evidence(
-    iq: &[Complex32],
-    fs: f64,
-    est: &Given<'_>,
-    work: &mut [f64],
-) -> Result<[f64; 5], Refusal> {
-    let (iq, iq_len) = numbers(iq);
-    let (work, work_len) = (work.as_mut_ptr(), work.len());
-    let mut figures = [0.0; 5];
-    // Safety: every pointer is of a slice and beside its length; the written ones are borrowed mutably.
-    let status = unsafe {
-        cancel_second_carrier_evidence(
-            iq,
-            iq_len,
-            fs,
-            est.carrier_hz,
-            est.carrier_step_hz,
-            est.elements.as_ptr(),
-            est.elements.len(),
-            est.element_count,
-            est.fits.as_ptr(),
-            est.fits.len(),
-            est.fit_count,
-            work,
-            work_len,
-            figures.as_mut_ptr(),
-        )
+    (@$as:tt $of:tt ($x:ident: number $(, $($more:tt)*)?) ($($p:tt)*) ($($k:ty,)*) ($($v:expr,)*)) => {
+        linked! { @$as $of ($($($more)*)?) ($($p)* $x: f64,) ($($k,)* f64,) ($($v,)* $x,) }
     };
-    told(status, figures)
-}
-
-/// The number of the hypothesis and its offset. This call refuses nothing.
-pub(crate) fn classify(gap_blocks: u64, hot_fraction: f64, offset_hz: Option<f64>, coherence: f64) -> [f64; 2] {
-    let (present, offset_hz) = (offset_hz.is_some() as u64, offset_hz.unwrap_or(0.0));
-    let mut figures = [0.0; 2];
-    // Safety: only the figures are lent, two numbers.
-    unsafe { cancel_classify(gap_blocks, hot_fraction, present, offset_hz, coherence, figures.as_mut_ptr()) };
-    figures
-}
-
-pub(crate) fn subtract(buf: &mut [Complex32], fs: f64, est: &Given<'_>) -> Result<(), Refusal> {
-    let (buf, buf_len) = numbers_mut(buf);
-    // Safety: every pointer is of a slice and beside its length; the buffer is borrowed mutably.
-    let status = unsafe {
-        cancel_subtract(
-            buf,
-            buf_len,
-            fs,
-            est.carrier_hz,
-            est.carrier_step_hz,
-            est.elements.as_ptr(),
-            est.elements.len(),
-            est.element_count,
-            est.fits.as_ptr(),
-            est.fits.len(),
-            est.fit_count,
-        )
+    (@$as:tt $of:tt ($x:ident: whole $(, $($more:tt)*)?) ($($p:tt)*) ($($k:ty,)*) ($($v:expr,)*)) => {
+        linked! { @$as $of ($($($more)*)?) ($($p)* $x: u64,) ($($k,)* u64,) ($($v,)* $x,) }
     };
-    told(status, ())
-}
-
-/// The 28 figures of a run.
-pub(crate) fn run(
-    buf: &mut [Complex32],
-    fs: f64,
-    hint_hz: f64,
-    elements: &mut [f64],
-    fits: &mut [f64],
-    work: &mut [f64],
-) -> Result<[f64; 28], Refusal> {
-    let (buf, buf_len) = numbers_mut(buf);
-    let (elements, elements_len) = (elements.as_mut_ptr(), elements.len());
-    let (fits, fits_len) = (fits.as_mut_ptr(), fits.len());
-    let (work, work_len) = (work.as_mut_ptr(), work.len());
-    let mut figures = [0.0; 28];
-    // Safety: every pointer is of a slice and beside its length; the written ones are borrowed mutably.
-    let status = unsafe {
-        cancel_run(
-            buf,
-            buf_len,
-            fs,
-            hint_hz,
-            elements,
-            elements_len,
-            fits,
-            fits_len,
-            work,
-            work_len,
-            figures.as_mut_ptr(),
-        )
+    (@$as:tt $of:tt ($x:ident: filled $(, $($more:tt)*)?) ($($p:tt)*) ($($k:ty,)*) ($($v:expr,)*)) => {
+        linked! { @$as $of ($($($more)*)?) ($($p)* $x: &mut [f64],)
+            ($($k,)* *mut f64, usize,) ($($v,)* $x.as_mut_ptr(), $x.len(),) }
     };
-    told(status, figures)
-}
-
-/// B of a recording of so many samples, 0 where the rate is refused.
-pub(crate) fn blocks(samples: usize, fs: f64) -> usize {
-    // Safety: nothing is lent.
-    unsafe { cancel_blocks(2 * samples, fs) }
-}
-
-/// How many amplitudes, whether there is a threshold (0 or 1), the threshold.
-pub(crate) fn amplitude_row(
-    iq: &[Complex32],
-    fs: f64,
-    carrier_hz: f64,
-    row: &mut [f64],
-    work: &mut [f64],
-) -> Result<[f64; 3], Refusal> {
-    let (iq, iq_len) = numbers(iq);
-    let (row, row_len) = (row.as_mut_ptr(), row.len());
-    let (work, work_len) = (work.as_mut_ptr(), work.len());
-    let mut figures = [0.0; 3];
-    // Safety: every pointer is of a slice and beside its length; the written ones are borrowed mutably.
-    let status =
-        unsafe { cancel_amplitude_row(iq, iq_len, fs, carrier_hz, row, row_len, work, work_len, figures.as_mut_ptr()) };
-    told(status, figures)
-}
-
-/// Blocks, and how many are of each class.
-pub(crate) fn block_classes(
-    samples: usize,
-    fs: f64,
-    est: &Given<'_>,
-    classes: &mut [f64],
-) -> Result<[f64; 5], Refusal> {
-    let (classes, classes_len) = (classes.as_mut_ptr(), classes.len());
-    let mut figures = [0.0; 5];
-    // Safety: every pointer is of a slice and beside its length; the written one is borrowed mutably. No recording is
-    // lent, only its length; one of more numbers than can be counted is as much refused as the longest that can.
-    let status = unsafe {
-        cancel_block_classes(
-            samples.saturating_mul(2),
-            fs,
-            est.carrier_hz,
-            est.carrier_step_hz,
-            est.elements.as_ptr(),
-            est.elements.len(),
-            est.element_count,
-            est.fits.as_ptr(),
-            est.fits.len(),
-            est.fit_count,
-            classes,
-            classes_len,
-            figures.as_mut_ptr(),
-        )
+    (@$as:tt $of:tt ($x:ident: listed $(, $($more:tt)*)?) ($($p:tt)*) ($($k:ty,)*) ($($v:expr,)*)) => {
+        linked! { @$as $of ($($($more)*)?) ($($p)* $x: Records<'_>,)
+            ($($k,)* *const f64, usize, usize,) ($($v,)* $x.numbers.as_ptr(), $x.numbers.len(), $x.count,) }
     };
-    told(status, figures)
+    (@$as:tt $of:tt ($x:ident: estimate $(, $($more:tt)*)?) ($($p:tt)*) ($($k:ty,)*) ($($v:expr,)*)) => {
+        linked! { @$as $of ($($($more)*)?) ($($p)* $x: &Given<'_>,)
+            ($($k,)* f64, f64, *const f64, usize, usize, *const f64, usize, usize,)
+            ($($v,)* $x.carrier_hz, $x.carrier_step_hz,
+                $x.elements.numbers.as_ptr(), $x.elements.numbers.len(), $x.elements.count,
+                $x.fits.numbers.as_ptr(), $x.fits.numbers.len(), $x.fits.count,) }
+    };
+    (@$as:tt $of:tt ($x:ident: check $(, $($more:tt)*)?) ($($p:tt)*) ($($k:ty,)*) ($($v:expr,)*)) => {
+        linked! { @$as $of ($($($more)*)?) ($($p)* $x: &[f64; residual::COUNT],)
+            ($($k,)* *const f64,) ($($v,)* $x.as_ptr(),) }
+    };
+
+    // What is answered.
+    (@(figures($count:expr)) ($(#[$doc:meta])* $name:ident $call:ident)
+        () ($($p:tt)*) ($($k:ty,)*) ($($v:expr,)*)) => {
+        linked! { @declared $call ($($k,)* *mut f64) u64 }
+        $(#[$doc])*
+        pub(crate) fn $name($($p)*) -> Result<[f64; $count], Refusal> {
+            let mut figures = [0.0; $count];
+            told(linked!(@made $call ($($v,)* figures.as_mut_ptr())), figures)
+        }
+    };
+    (@(nothing) ($(#[$doc:meta])* $name:ident $call:ident) () ($($p:tt)*) ($($k:ty,)*) ($($v:expr,)*)) => {
+        linked! { @declared $call ($($k),*) u64 }
+        $(#[$doc])*
+        pub(crate) fn $name($($p)*) -> Result<(), Refusal> {
+            told(linked!(@made $call ($($v),*)), ())
+        }
+    };
+    (@(sure($count:expr)) ($(#[$doc:meta])* $name:ident $call:ident) () ($($p:tt)*) ($($k:ty,)*) ($($v:expr,)*)) => {
+        linked! { @declared $call ($($k,)* *mut f64) u64 }
+        $(#[$doc])*
+        pub(crate) fn $name($($p)*) -> [f64; $count] {
+            let mut figures = [0.0; $count];
+            linked!(@made $call ($($v,)* figures.as_mut_ptr()));
+            figures
+        }
+    };
+    (@(plain($result:ty)) ($(#[$doc:meta])* $name:ident $call:ident) () ($($p:tt)*) ($($k:ty,)*) ($($v:expr,)*)) => {
+        linked! { @declared $call ($($k),*) $result }
+        $(#[$doc])*
+        pub(crate) fn $name($($p)*) -> $result {
+            linked!(@made $call ($($v),*))
+        }
+    };
+
+    (@declared $call:ident ($($k:ty),*) $result:ty) => {
+        mod $call {
+            extern "C" {
+                pub(super) fn $call($(_: $k),*) -> $result;
+            }
+            pub(super) const DECLARED: super::Declared = super::Declared {
+                name: stringify!($call),
+                parameters: &[$(stringify!($k)),*],
+                result: stringify!($result),
+            };
+        }
+    };
+    (@made $call:ident ($($v:expr),*)) => {
+        // Safety: the function is proved, for every input, to read and write only what it is lent and to return. What
+        // is left to the caller (include/cancel.h) holds of every call: pointers come from slices or arrays, so they
+        // are not null, not even of an empty one, are aligned and stand for as many numbers as the length beside them,
+        // or the header, says; and what is written is borrowed mutably, so it overlaps nothing else that is lent.
+        unsafe { $call::$call($($v),*) }
+    };
+}
+
+linked! {
+    version = cancel_version() -> plain(u64);
+    /// B of a recording of so many samples, 0 where the rate is refused.
+    blocks = cancel_blocks(samples: samples, fs: number) -> plain(usize);
+    amplitude_row = cancel_amplitude_row(
+        iq: recording, fs: number, carrier_hz: number, row: filled, work: filled
+    ) -> figures(row::COUNT);
+    find_elements = cancel_find_elements(
+        iq: recording, fs: number, carrier_hz: number, elements: filled, work: filled
+    ) -> figures(find::COUNT);
+    fit_elements = cancel_fit_elements(
+        iq: recording, fs: number, carrier_hz: number, elements: listed, fits: filled, work: filled
+    ) -> figures(fit::COUNT);
+    estimate_strong = cancel_estimate_strong(
+        iq: recording, fs: number, hint_hz: number, elements: filled, fits: filled, work: filled
+    ) -> figures(estimate::COUNT);
+    block_classes = cancel_block_classes(
+        samples: samples, fs: number, est: estimate, classes: filled
+    ) -> figures(classes::COUNT);
+    residual_check = cancel_residual_check(
+        iq: recording, fs: number, est: estimate, work: filled
+    ) -> figures(residual::COUNT);
+    second_carrier_evidence = cancel_second_carrier_evidence(
+        iq: recording, fs: number, est: estimate, work: filled
+    ) -> figures(evidence::COUNT);
+    classify = cancel_classify(
+        gap_blocks: whole, hot_fraction: number, present: whole, offset_hz: number, coherence: number
+    ) -> sure(classify::COUNT);
+    clean = cancel_clean(check: check) -> sure(clean::COUNT);
+    subtract = cancel_subtract(buf: buffer, fs: number, est: estimate) -> nothing;
+    run = cancel_run(
+        buf: buffer, fs: number, hint_hz: number, elements: filled, fits: filled, work: filled
+    ) -> figures(run::COUNT);
 }

@@ -17,6 +17,10 @@ use num_complex::Complex32;
 /// assert_eq!(find_elements(&recording, 3_000.0, 0.0)?, [KeyedElement { start: 99.5, end: 199.5 }]);
 /// # Ok::<(), cancel::Refusal>(())
 /// ```
+///
+/// # Errors
+///
+/// [`Refusal::Rate`], [`Refusal::Count`], [`Refusal::Sample`] or [`Refusal::Carrier`].
 pub fn find_elements(iq: &[Complex32], fs: f64, carrier_hz: f64) -> Result<Vec<KeyedElement>, Refusal> {
     let mut workspace = Workspace::with_room(iq.len(), fs);
     let found = workspace.find_elements(iq, fs, carrier_hz)?;
@@ -34,6 +38,10 @@ pub fn find_elements(iq: &[Complex32], fs: f64, carrier_hz: f64) -> Result<Vec<K
 /// assert_eq!((fits[0].gain.re, fits[0].slope_rad_per_sample, fits[0].ref_sample), (1.0, 0.0, 149.0));
 /// # Ok::<(), cancel::Refusal>(())
 /// ```
+///
+/// # Errors
+///
+/// [`Refusal::Rate`], [`Refusal::Count`], [`Refusal::Sample`], [`Refusal::Carrier`] or [`Refusal::Given`].
 pub fn fit_elements(
     iq: &[Complex32],
     fs: f64,
@@ -46,12 +54,20 @@ pub fn fit_elements(
 }
 
 /// Finds, fits, refines the carrier once, finds and fits again at the refined carrier.
+///
+/// # Errors
+///
+/// [`Refusal::Rate`], [`Refusal::Count`], [`Refusal::Sample`] or [`Refusal::Carrier`].
 pub fn estimate_strong(iq: &[Complex32], fs: f64, carrier_hint_hz: f64) -> Result<StrongEstimate, Refusal> {
     let mut workspace = Workspace::with_room(iq.len(), fs);
     Ok(workspace.estimate_strong(iq, fs, carrier_hint_hz)?.to_strong())
 }
 
 /// What taking the estimate off would leave of the strong sender, over the level of its neighbour.
+///
+/// # Errors
+///
+/// [`Refusal::Rate`], [`Refusal::Count`], [`Refusal::Sample`] or [`Refusal::Given`].
 pub fn residual_check(iq: &[Complex32], fs: f64, est: &StrongEstimate) -> Result<ResidualCheck, Refusal> {
     let mut workspace = Workspace::new();
     workspace.make_work(iq.len(), fs);
@@ -59,6 +75,10 @@ pub fn residual_check(iq: &[Complex32], fs: f64, est: &StrongEstimate) -> Result
 }
 
 /// What a second carrier shows in the gaps of the estimate.
+///
+/// # Errors
+///
+/// [`Refusal::Rate`], [`Refusal::Count`], [`Refusal::Sample`] or [`Refusal::Given`].
 pub fn second_carrier_evidence(
     iq: &[Complex32],
     fs: f64,
@@ -77,8 +97,10 @@ pub fn second_carrier_evidence(
 /// let evidence = SecondCarrierEvidence { gap_blocks: 100, hot_fraction: 0.4, offset_hz: Some(60.0), coherence: 0.9 };
 /// assert_eq!(classify(&evidence), Hypothesis::TwoSignalCw { offset_hz: 60.0 });
 /// ```
+#[must_use]
 pub fn classify(e: &SecondCarrierEvidence) -> Hypothesis {
-    Hypothesis::of(&linked::classify(e.gap_blocks as u64, e.hot_fraction, e.offset_hz, e.coherence))
+    let (present, offset_hz) = (e.offset_hz.is_some() as u64, e.offset_hz.unwrap_or(0.0));
+    Hypothesis::of(&linked::classify(e.gap_blocks as u64, e.hot_fraction, present, offset_hz, e.coherence))
 }
 
 /// Takes the estimate off the recording, over the span of each fit.
@@ -93,12 +115,20 @@ pub fn classify(e: &SecondCarrierEvidence) -> Hypothesis {
 /// assert!(recording[150].norm() < 1e-6);
 /// # Ok::<(), cancel::Refusal>(())
 /// ```
+///
+/// # Errors
+///
+/// [`Refusal::Rate`], [`Refusal::Count`], [`Refusal::Sample`] or [`Refusal::Given`].
 pub fn subtract(buf: &mut [Complex32], fs: f64, est: &StrongEstimate) -> Result<(), Refusal> {
     Workspace::new().hold(fs, est).subtract(buf)
 }
 
 /// Estimates, measures, decides, and takes the strong sender off the recording where the rules allow it. Where they do
 /// not, and where it is refused, the recording keeps every bit.
+///
+/// # Errors
+///
+/// [`Refusal::Rate`], [`Refusal::Count`], [`Refusal::Sample`] or [`Refusal::Carrier`].
 pub fn run(buf: &mut [Complex32], fs: f64, hint_hz: f64) -> Result<Run, Refusal> {
     let mut workspace = Workspace::with_room(buf.len(), fs);
     let ran = workspace.run(buf, fs, hint_hz)?;

@@ -1,22 +1,25 @@
 //! What a picture of a run shows beside its figures: the amplitude row, and the class of each block.
 
-use crate::linked;
 use crate::records::StrongEstimate;
 use crate::refusal::Refusal;
-use crate::workspace::{steps, Workspace};
+use crate::workspace::Workspace;
 use num_complex::Complex32;
 
 /// The row of amplitudes in which key-downs are found.
 #[derive(Debug, Clone, PartialEq)]
+#[cfg_attr(feature = "serde", derive(serde::Serialize, serde::Deserialize))]
 pub struct AmplitudeRow {
     /// One for each step of the recording but the last seven.
     pub amplitudes: Vec<f64>,
     /// Half the 98th percentile; `None` where the row is empty or that is not positive: then there are no key-downs.
+    #[cfg_attr(feature = "serde", serde(default, with = "crate::numbers::optional"))]
     pub threshold: Option<f64>,
 }
 
 /// What a block of the recording is to the estimate.
 #[derive(Debug, Clone, Copy, PartialEq, Eq)]
+#[cfg_attr(feature = "serde", derive(serde::Serialize, serde::Deserialize), serde(rename_all = "snake_case"))]
+#[non_exhaustive]
 pub enum BlockClass {
     /// At an edge of a fitted element.
     Edge,
@@ -37,12 +40,16 @@ pub enum BlockClass {
 /// assert_eq!((row.amplitudes.len(), row.amplitudes[0], row.threshold), (293, 2.0, Some(1.0)));
 /// # Ok::<(), cancel::Refusal>(())
 /// ```
+///
+/// # Errors
+///
+/// [`Refusal::Rate`], [`Refusal::Count`], [`Refusal::Sample`] or [`Refusal::Carrier`].
 pub fn amplitude_row(iq: &[Complex32], fs: f64, carrier_hz: f64) -> Result<AmplitudeRow, Refusal> {
-    let b = steps(iq.len(), fs);
-    let (mut amplitudes, mut work) = (vec![0.0; b], vec![0.0; 4 * b]);
-    let [count, present, threshold] = linked::amplitude_row(iq, fs, carrier_hz, &mut amplitudes, &mut work)?;
-    amplitudes.truncate(count as usize);
-    Ok(AmplitudeRow { amplitudes, threshold: if present == 0.0 { None } else { Some(threshold) } })
+    let mut workspace = Workspace::new();
+    workspace.make_row(iq.len(), fs);
+    workspace.make_work(iq.len(), fs);
+    let row = workspace.amplitude_row(iq, fs, carrier_hz)?;
+    Ok(AmplitudeRow { amplitudes: row.amplitudes.to_vec(), threshold: row.threshold })
 }
 
 /// The class of each block of a recording of so many samples.
@@ -58,15 +65,18 @@ pub fn amplitude_row(iq: &[Complex32], fs: f64, carrier_hz: f64) -> Result<Ampli
 /// assert_eq!((classes[100], classes[0]), (BlockClass::Gap, BlockClass::Other));
 /// # Ok::<(), cancel::Refusal>(())
 /// ```
+///
+/// # Errors
+///
+/// [`Refusal::Rate`], [`Refusal::Count`] or [`Refusal::Given`].
 pub fn block_classes(samples: usize, fs: f64, est: &StrongEstimate) -> Result<Vec<BlockClass>, Refusal> {
     let mut workspace = Workspace::new();
-    let mut classes = vec![0.0; steps(samples, fs)];
-    let [blocks, ..] = linked::block_classes(samples, fs, &workspace.hold(fs, est).given().0, &mut classes)?;
-    Ok(classes.into_iter().take(blocks as usize).map(BlockClass::of).collect())
+    workspace.make_classes(samples, fs);
+    Ok(workspace.block_classes(samples, fs, est)?.classes().collect())
 }
 
 impl BlockClass {
-    fn of(number: f64) -> BlockClass {
+    pub(crate) fn of(number: f64) -> BlockClass {
         match number as u64 {
             0 => BlockClass::Edge,
             1 => BlockClass::Interior,

@@ -1,6 +1,6 @@
 //! No call over a workspace that has room allocates.
 
-use cancel::{classify, Complex32, KeyedElement, Refusal, Workspace};
+use cancel::{classify, estimate_strong, BlockClass, Complex32, KeyedElement, Refusal, StrongEstimate, Workspace};
 use std::alloc::{GlobalAlloc, Layout, System};
 use std::cell::Cell;
 
@@ -38,7 +38,16 @@ fn recording(samples: usize, fs: f64) -> Vec<Complex32> {
         .collect()
 }
 
-fn every_call(workspace: &mut Workspace, buf: &mut [Complex32], fs: f64) -> Result<usize, Refusal> {
+/// A given estimate is made before anything is counted.
+fn every_call(
+    workspace: &mut Workspace,
+    buf: &mut [Complex32],
+    fs: f64,
+    strong: &StrongEstimate,
+) -> Result<usize, Refusal> {
+    let row = workspace.amplitude_row(buf, fs, 0.0)?;
+    let above = row.amplitudes.iter().filter(|&&a| Some(a) > row.threshold).count();
+    let gaps = workspace.block_classes(buf.len(), fs, strong)?.classes().filter(|&c| c == BlockClass::Gap).count();
     let elements = workspace.find_elements(buf, fs, 0.0)?.elements().len();
     let given = [KeyedElement { start: 310.0, end: 450.0 }];
     let fits = workspace.fit_elements(buf, fs, 0.0, &given)?.fits().filter(|f| f.gain.re > 0.5).count();
@@ -46,10 +55,12 @@ fn every_call(workspace: &mut Workspace, buf: &mut [Complex32], fs: f64) -> Resu
     let clean = estimate.residual_check(buf)?.clean();
     let evidence = estimate.second_carrier_evidence(buf)?;
     let hypothesis = classify(&evidence);
+    let blocks = estimate.block_classes(buf.len())?.counts.blocks;
     estimate.subtract(buf)?;
     let long = estimate.elements().filter(|e| e.down - e.up > 10).count();
     let ran = workspace.run(buf, fs, 0.0)?;
-    Ok(elements + fits + long + ran.fits().len() + clean as usize + (hypothesis == classify(&evidence)) as usize)
+    let looked = above + gaps + blocks + clean as usize + (hypothesis == classify(&evidence)) as usize;
+    Ok(elements + fits + long + ran.fits().len() + looked)
 }
 
 #[test]
@@ -57,10 +68,12 @@ fn no_call_allocates() {
     let fs = 3_000.0;
     let mut buf = recording(12_000, fs);
     let mut workspace = Workspace::with_room(buf.len(), fs);
+    let strong = estimate_strong(&buf, fs, 0.1).unwrap();
+    assert!(strong.fits.len() > 10);
     let before = ASKED.with(Cell::get);
-    let answer = every_call(&mut workspace, &mut buf, fs);
-    let shorter = every_call(&mut workspace, &mut buf[..6_001], fs);
-    let refused = every_call(&mut workspace, &mut buf, 100.0);
+    let answer = every_call(&mut workspace, &mut buf, fs, &strong);
+    let shorter = every_call(&mut workspace, &mut buf[..6_001], fs, &strong);
+    let refused = every_call(&mut workspace, &mut buf, 100.0, &strong);
     let asked = ASKED.with(Cell::get) - before;
     assert!(answer.unwrap() > 10 && shorter.is_ok(), "{answer:?}, {shorter:?}");
     assert_eq!(refused, Err(Refusal::Rate));

@@ -20,11 +20,12 @@ fn each_by_its_number() {
         assert_eq!(find_elements(&iq, fs, 0.0).unwrap_err(), Refusal::Rate);
     }
     let long = vec![Complex32::new(0.0, 0.0); (1 << 20) + 1];
-    assert_eq!(find_elements(&long, FS, 0.0).unwrap_err(), Refusal::Size);
+    assert_eq!(find_elements(&long, FS, 0.0).unwrap_err(), Refusal::Count);
     let mut wild = iq.clone();
     wild[299].re = f32::INFINITY;
     assert_eq!(estimate_strong(&wild, FS, 0.0).unwrap_err(), Refusal::Sample);
-    assert_eq!(find_elements(&iq, FS, 1_500.1).unwrap_err(), Refusal::Hint);
+    assert_eq!(find_elements(&iq, FS, 1_500.1).unwrap_err(), Refusal::Carrier);
+    assert_eq!((Refusal::Size, Refusal::Hint), (Refusal::Count, Refusal::Carrier));
     assert_eq!(Workspace::new().find_elements(&iq, FS, 0.0).unwrap_err(), Refusal::Places);
     let element = KeyedElement { start: 99.5, end: 199.5 };
     assert_eq!(Workspace::new().fit_elements(&iq, FS, 0.0, &[element]).unwrap_err(), Refusal::Work);
@@ -38,9 +39,9 @@ fn each_by_its_number() {
 
 #[test]
 fn numbers_and_sentences() {
-    for (i, refusal) in Refusal::ALL.into_iter().enumerate() {
+    for (i, refusal) in Refusal::ALL.iter().enumerate() {
         assert_eq!(refusal.number(), i as u64 + 1);
-        assert_eq!(Refusal::of_number(refusal.number()), Some(refusal));
+        assert_eq!(Refusal::of_number(refusal.number()), Some(*refusal));
         assert!(refusal.to_string().len() > 20);
     }
     assert_eq!((Refusal::of_number(0), Refusal::of_number(8)), (None, None));
