@@ -81,6 +81,7 @@ fn word(hypothesis: Hypothesis) -> &'static str {
         Hypothesis::TwoSignalCw { .. } => "two",
         Hypothesis::NonCw => "noncw",
         Hypothesis::Unresolved => "unresolved",
+        _ => "unknown",
     }
 }
 

@@ -59,6 +59,7 @@ fn draw_title<B: DrawingBackend>(area: &DrawingArea<B, Shift>, shown: &Shown<'_>
         Hypothesis::TwoSignalCw { offset_hz } => format!("two signals, {offset_hz:+.1} Hz"),
         Hypothesis::NonCw => "no CW".to_string(),
         Hypothesis::Unresolved => "unresolved".to_string(),
+        _ => "unknown".to_string(),
     };
     let buffer = if f.taken { "taken off" } else { "kept" };
     let name = shown.of.name.rsplit('/').next().unwrap_or("");
