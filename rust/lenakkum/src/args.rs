@@ -40,6 +40,9 @@ pub struct Run {
     /// Report as JSON, with every figure, key-down and fit; one line for each recording
     #[arg(long)]
     pub json: bool,
+    /// Say after each report why the sender was taken off or the recording kept: four conditions, values and limits
+    #[arg(long)]
+    pub explain: bool,
     /// Write the recording as the run leaves it: .cf32, or a SigMF pair if FILE is named as one
     #[arg(long, value_name = "FILE")]
     pub out: Option<PathBuf>,

@@ -4,10 +4,12 @@
 //! output was wrong; one line says what.
 
 mod args;
+mod numbers;
 #[cfg(feature = "pictures")]
 mod picture;
 mod problem;
 mod reading;
+mod reasons;
 mod report;
 mod runs;
 mod sigmf;

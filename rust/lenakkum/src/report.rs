@@ -1,5 +1,6 @@
 //! What is said of a run: document 01's report, one line, or JSON.
 
+use crate::{numbers, reasons};
 use cancel::{Hypothesis, Ran, Refusal, LIBRARY};
 use serde::Serialize;
 use std::fmt::Write;
@@ -65,8 +66,12 @@ pub fn line(name: &str, ran: &Ran<'_>, statement: Option<&Statement<'_>>) -> Str
     if let Hypothesis::TwoSignalCw { offset_hz } = f.hypothesis {
         let _ = write!(said, " ({offset_hz:+.1} Hz)");
     }
-    let _ = write!(said, ", {}, carrier {:.2} Hz, ", buffer(f.taken), f.carrier_hz);
+    let _ = write!(said, ", {}, carrier {} Hz, ", buffer(f.taken), numbers::rounded(f.carrier_hz, 2));
     let _ = write!(said, "key-downs {}, listed {}, fitted {}", f.key_downs, f.listed, f.fitted);
+    let why = reasons::kept_because(f);
+    if !why.is_empty() {
+        let _ = write!(said, "; kept because {}", why.join("; "));
+    }
     if let Some(s) = statement {
         let _ =
             write!(said, ", rate {}, hint {}, commit {}, library {}", s.rate_hz, s.hint_hz, s.commit, s.library_sha256);
@@ -103,12 +108,7 @@ enum Number {
 
 impl From<f64> for Number {
     fn from(x: f64) -> Number {
-        match x {
-            x if x.is_finite() => Number::Finite(x),
-            x if x.is_nan() => Number::Not("nan"),
-            x if x > 0.0 => Number::Not("infinity"),
-            _ => Number::Not("-infinity"),
-        }
+        numbers::not_finite(x).map_or(Number::Finite(x), Number::Not)
     }
 }
 
@@ -146,6 +146,7 @@ struct Figures {
     hypothesis: &'static str,
     offset_hz: Option<Number>,
     buffer: &'static str,
+    kept_because: Vec<String>,
     elements: Vec<Element>,
     fits: Vec<Fit>,
 }
@@ -238,6 +239,7 @@ fn figures(ran: &Ran<'_>) -> Figures {
             _ => None,
         },
         buffer: buffer(f.taken),
+        kept_because: reasons::kept_because(f),
         elements: ran
             .elements()
             .map(|k| Element { start: k.element.start.into(), end: k.element.end.into(), up: k.up, down: k.down })

@@ -5,6 +5,7 @@ use crate::args::Run;
 use crate::picture;
 use crate::problem::{self, Problem};
 use crate::reading::{self, Recording};
+use crate::reasons;
 use crate::report::{self, Statement};
 use crate::writing::Staged;
 use cancel::Workspace;
@@ -100,11 +101,12 @@ fn ran(
         staged.push(picture::of_run(path, name, *rate, &before, samples, &ran).map_err(wrong)?);
     }
     staged.into_iter().try_for_each(Staged::put).map_err(wrong)?;
-    Ok(match (args.json, form) {
-        (true, _) => report::json(name, &ran, statement),
+    let said = match (args.json, form) {
+        (true, _) => return Ok(report::json(name, &ran, statement)),
         (false, Form::Whole) => report::text(&ran, statement),
         (false, Form::Line) => report::line(name, &ran, statement),
-    })
+    };
+    Ok(if args.explain { said + &reasons::explained(&ran.figures) } else { said })
 }
 
 /// Onto standard output.

@@ -1,81 +1,10 @@
 //! The command, run as a person runs it.
 
+mod common;
+
+use common::*;
 use serde_json::Value;
-use std::f64::consts::{PI, TAU};
 use std::fs::{self, File};
-use std::path::{Path, PathBuf};
-use std::process::{Command, Output, Stdio};
-
-/// An empty folder of this test.
-fn folder(name: &str) -> PathBuf {
-    let folder = Path::new(env!("CARGO_TARGET_TMPDIR")).join(name);
-    let _ = fs::remove_dir_all(&folder);
-    fs::create_dir_all(&folder).unwrap();
-    folder
-}
-
-fn lenakkum(folder: &Path, words: &str) -> Output {
-    with_input(folder, words, Stdio::null())
-}
-
-fn with_input(folder: &Path, words: &str, input: Stdio) -> Output {
-    let mut command = Command::new(env!("CARGO_BIN_EXE_lenakkum"));
-    command.current_dir(folder).args(words.split_whitespace()).stdin(input).output().unwrap()
-}
-
-fn text(bytes: &[u8]) -> String {
-    String::from_utf8(bytes.to_vec()).unwrap()
-}
-
-fn names(folder: &Path) -> Vec<String> {
-    let mut names: Vec<String> =
-        fs::read_dir(folder).unwrap().map(|e| e.unwrap().file_name().into_string().unwrap()).collect();
-    names.sort();
-    names
-}
-
-fn bytes(samples: impl IntoIterator<Item = (f64, f64)>) -> Vec<u8> {
-    samples.into_iter().flat_map(|(re, im)| [re as f32, im as f32]).flat_map(f32::to_le_bytes).collect()
-}
-
-/// 300 samples with one key-down: document 01's example.
-fn one() -> Vec<u8> {
-    bytes((0..300).map(|k| (if (100..200).contains(&k) { 1.0 } else { 0.0 }, 0.0)))
-}
-
-const ONE: &str = "(run 0\n(size 300 8 37)\n(keys 1 1 0 1 0)\n(air 101)\n(blocks 0 0 0 37)\n(key 96 197)\n\
-                   (hypothesis one)\n(buffer kept))\n";
-
-/// A strong sender of 21 key-downs with a gap in the middle, in which a weak one 60 Hz away keys twice: it is taken.
-fn two() -> Vec<u8> {
-    let fs = 3_000.0;
-    let marks: Vec<f64> = (0..21).map(|i| 12.0 + 78.5 * i as f64 + if i > 9 { 384.0 } else { 0.0 }).collect();
-    let level = |k: f64, starts: &[f64], length: f64| -> f64 {
-        starts.iter().map(|s| ramp((k - s) / fs) - ramp((k - s - length) / fs)).sum()
-    };
-    bytes((0..2_048).map(|k| {
-        let k = k as f64;
-        let (strong, weak) = (level(k, &marks, 62.5), 0.25 * level(k, &[850.0, 1_010.0], 85.0));
-        let angle = TAU * 60.0 * k / fs + 1.0;
-        // A little of a tone far away in place of noise.
-        let far = 0.002 * (TAU * 0.37 * k).cos();
-        (strong + weak * angle.cos() + far, weak * angle.sin())
-    }))
-}
-
-fn ramp(t: f64) -> f64 {
-    if t <= -2.5e-3 {
-        0.0
-    } else if t >= 2.5e-3 {
-        1.0
-    } else {
-        0.5 + 0.5 * (PI * t / 5e-3).sin()
-    }
-}
-
-fn meta(kind: &str, rate: &str) -> String {
-    format!(r#"{{"global": {{"core:datatype": "{kind}", "core:sample_rate": {rate}}}, "captures": []}}"#)
-}
 
 #[test]
 fn the_report_of_document_01() {
@@ -92,14 +21,8 @@ fn the_report_of_document_01() {
 /// bytes and answers `(run 2)` to half a sample; here the one is no limit and the other is named, as is an empty file.
 #[test]
 fn the_examples() {
-    let examples = Path::new(env!("CARGO_MANIFEST_DIR")).join("../../examples");
-    let recordings = fs::read_dir(&examples).into_iter().flatten().map(|e| e.unwrap().path());
-    for path in recordings.filter(|p| p.extension().map_or(false, |e| e == "iq")) {
-        let size = fs::metadata(&path).unwrap().len();
-        if size == 0 || size % 8 != 0 || size > 16_384 {
-            continue;
-        }
-        let said = lenakkum(&examples, &format!("run {} --rate 3000", path.file_name().unwrap().to_str().unwrap()));
+    for path in examples() {
+        let said = lenakkum(path.parent().unwrap(), &format!("run {} --rate 3000", file_name(&path)));
         assert_eq!(text(&said.stdout), fs::read_to_string(path.with_extension("report")).unwrap(), "{path:?}");
     }
 }

@@ -12,6 +12,8 @@ const RIGHT: u32 = 30;
 
 /// Heights of the panels from the top down; the last has the rest.
 const TITLE: u32 = 60;
+/// What each line of a title below its first adds.
+const REASON: u32 = 26;
 const ROW: u32 = 360;
 const LANES: u32 = 330;
 /// What of a panel its caption takes.
@@ -34,7 +36,7 @@ type Drawn = Result<(), String>;
 /// Draws it all onto an area of a picture.
 pub(super) fn drawn<B: DrawingBackend>(area: &DrawingArea<B, Shift>, shown: &Shown<'_>) -> Drawn {
     area.fill(&WHITE).map_err(said)?;
-    let (title, rest) = area.split_vertically(TITLE);
+    let (title, rest) = area.split_vertically(TITLE + added(shown.reasons.len()));
     let (row, rest) = rest.split_vertically(ROW);
     let (lanes, neighbour) = rest.split_vertically(LANES);
     draw_title(&title, shown)?;
@@ -42,6 +44,26 @@ pub(super) fn drawn<B: DrawingBackend>(area: &DrawingArea<B, Shift>, shown: &Sho
     draw_lanes(&lanes, shown)?;
     draw_neighbour(&neighbour, shown)?;
     area.present().map_err(said)
+}
+
+/// How much higher a picture is with so many lines of reasons in its title.
+pub(super) fn added(lines: usize) -> u32 {
+    REASON * lines as u32
+}
+
+/// A sentence in lines that fit into a picture's width.
+pub(super) fn lines(sentence: &str) -> Vec<String> {
+    const MOST: usize = 130;
+    let mut lines = vec![String::new()];
+    for word in sentence.split(' ') {
+        let last = lines.last_mut().expect("there is a first line");
+        match last.len() {
+            0 => last.push_str(word),
+            n if n + word.len() < MOST => last.extend([" ", word]),
+            _ => lines.push(format!("    {word}")),
+        }
+    }
+    lines
 }
 
 fn said(e: impl std::fmt::Display) -> String {
@@ -67,11 +89,15 @@ fn draw_title<B: DrawingBackend>(area: &DrawingArea<B, Shift>, shown: &Shown<'_>
         "{name}: {hypothesis}, {buffer}   ({} samples at {} a second, carrier {:.2} Hz)",
         f.samples, shown.of.rate, f.carrier_hz
     );
-    area.draw_text(&line, &text(LARGE), (LEFT as i32, 20)).map_err(said)
+    area.draw_text(&line, &text(LARGE), (LEFT as i32, 20)).map_err(said)?;
+    shown.reasons.iter().enumerate().try_for_each(|(i, reason)| {
+        let below = (TITLE - 8 + REASON * i as u32) as i32;
+        area.draw_text(reason, &text(SMALL), (LEFT as i32, below)).map_err(said)
+    })
 }
 
 fn draw_row<B: DrawingBackend>(area: &DrawingArea<B, Shift>, shown: &Shown<'_>) -> Drawn {
-    let row = &shown.row.amplitudes;
+    let row = &shown.row;
     let top = trace::top(&[row]);
     let mut chart = ChartBuilder::on(area)
         .set_label_area_size(LabelAreaPosition::Left, LEFT)
@@ -87,7 +113,7 @@ fn draw_row<B: DrawingBackend>(area: &DrawingArea<B, Shift>, shown: &Shown<'_>) 
     chart.draw_series(shades).map_err(said)?;
     mesh(&mut chart)?;
     draw_trace(&mut chart, shown, row, LINE, 2)?;
-    if let Some(threshold) = shown.row.threshold {
+    if let Some(threshold) = shown.threshold {
         chart.draw_series(dashes(shown.seconds, threshold)).map_err(said)?;
         note(&chart, "threshold", (shown.seconds, threshold))?;
     }

@@ -1,7 +1,7 @@
 //! What was found, as lanes over time: a lane for each kind, so that no colour has to be told from another.
 
 use super::Subject;
-use cancel::{AmplitudeRow, BlockClass};
+use cancel::BlockClass;
 
 /// Stretches of time under one name.
 pub struct Lane {
@@ -18,7 +18,7 @@ impl Lane {
     }
 }
 
-pub(super) fn all(subject: &Subject<'_>, row: &AmplitudeRow, classes: &[BlockClass]) -> Vec<Lane> {
+pub(super) fn all(subject: &Subject<'_>, row: &[f64], threshold: Option<f64>, classes: &[BlockClass]) -> Vec<Lane> {
     let f = &subject.figures;
     let elements = subject.elements.iter().map(|k| (k.element.start, k.element.end));
     let fitted: Vec<(f64, f64)> = subject.estimate.fits.iter().map(|f| (f.element.start, f.element.end)).collect();
@@ -28,7 +28,7 @@ pub(super) fn all(subject: &Subject<'_>, row: &AmplitudeRow, classes: &[BlockCla
     let class = |name, count, class| Lane::new(name, count, blocks(classes, class, f.window));
     vec![
         Lane::new("listed", f.listed, elements),
-        Lane::new("short", f.short, short(subject, row)),
+        Lane::new("short", f.short, short(subject, row, threshold)),
         Lane::new("fitted", f.fitted, fitted),
         Lane::new("skipped", f.skipped, skipped),
         class("edge", f.edge, BlockClass::Edge),
@@ -40,9 +40,9 @@ pub(super) fn all(subject: &Subject<'_>, row: &AmplitudeRow, classes: &[BlockCla
 }
 
 /// The key-downs of the row that are not listed: pairs of an upward crossing and the next downward one.
-fn short(subject: &Subject<'_>, row: &AmplitudeRow) -> Vec<(f64, f64)> {
-    let (row, threshold) = match row.threshold {
-        Some(threshold) if threshold > 0.0 => (&row.amplitudes, threshold),
+fn short(subject: &Subject<'_>, row: &[f64], threshold: Option<f64>) -> Vec<(f64, f64)> {
+    let threshold = match threshold {
+        Some(threshold) if threshold > 0.0 => threshold,
         _ => return vec![],
     };
     let step = subject.figures.window / 8;

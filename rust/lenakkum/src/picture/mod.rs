@@ -6,6 +6,7 @@ mod lanes;
 mod trace;
 
 use crate::problem::Problem;
+use crate::reasons;
 use crate::writing::Staged;
 use cancel::{amplitude_row, block_classes, AmplitudeRow, KeyDown, Ran, Refusal, RunFigures, StrongEstimate};
 use num_complex::Complex32;
@@ -31,9 +32,12 @@ struct Shown<'a> {
     /// Seconds of the recording.
     seconds: f64,
     /// At the strong sender's carrier.
-    row: AmplitudeRow,
+    row: Vec<f64>,
+    threshold: Option<f64>,
     lanes: Vec<lanes::Lane>,
     neighbour: Result<Neighbour, &'static str>,
+    /// Lines that say why the recording was kept: none where the sender was taken off.
+    reasons: Vec<String>,
 }
 
 /// The amplitude row at the neighbour's offset.
@@ -43,7 +47,7 @@ struct Neighbour {
     after: AmplitudeRow,
 }
 
-/// Picture sizes, in pixels.
+/// A picture's size in pixels; reasons in its title make it higher.
 const SIZE: (u32, u32) = (1_500, 1_050);
 
 /// A picture's kinds, by the ending of its name.
@@ -89,9 +93,10 @@ fn staged(path: &Path, subject: &Subject<'_>) -> Result<Staged, Problem> {
     let kind = kind(path)?;
     let shown =
         shown(subject, kind == Kind::Svg).map_err(|refusal| Problem::Refused(subject.name.to_string(), refusal))?;
+    let size = (SIZE.0, SIZE.1 + draw::added(shown.reasons.len()));
     Staged::new(path, |beside| match kind {
-        Kind::Svg => draw::drawn(&SVGBackend::new(beside, SIZE).into_drawing_area(), &shown),
-        Kind::Png => draw::drawn(&BitMapBackend::new(beside, SIZE).into_drawing_area(), &shown),
+        Kind::Svg => draw::drawn(&SVGBackend::new(beside, size).into_drawing_area(), &shown),
+        Kind::Png => draw::drawn(&BitMapBackend::new(beside, size).into_drawing_area(), &shown),
     })
 }
 
@@ -99,10 +104,13 @@ fn shown<'a>(subject: &'a Subject<'a>, vectors: bool) -> Result<Shown<'a>, Refus
     let classes = block_classes(subject.before.len(), subject.rate, &subject.estimate)?;
     // A refined carrier may lie beyond half the rate, where a row is refused. There is then none to show.
     let row = row(subject.before, subject.rate, subject.figures.carrier_hz)?;
-    let row = row.unwrap_or(AmplitudeRow { amplitudes: vec![], threshold: None });
-    let lanes = lanes::all(subject, &row, &classes);
+    let (row, threshold) = row.map_or((vec![], None), |row| (row.amplitudes, row.threshold));
+    let lanes = lanes::all(subject, &row, threshold, &classes);
     let seconds = subject.before.len().max(1) as f64 / subject.rate;
-    Ok(Shown { of: subject, vectors, seconds, row, lanes, neighbour: neighbour(subject)? })
+    let neighbour = neighbour(subject)?;
+    let reasons = reasons::kept_because(&subject.figures);
+    let reasons = reasons.iter().flat_map(|reason| draw::lines(&format!("kept because {reason}"))).collect();
+    Ok(Shown { of: subject, vectors, seconds, row, threshold, lanes, neighbour, reasons })
 }
 
 /// The envelope at the offset that the evidence has, before and after, or why there is none.

@@ -1,0 +1,108 @@
+//! What the tests of the command share: folders, recordings, and the command run as a person runs it.
+#![allow(dead_code)]
+
+use serde_json::Value;
+use std::f64::consts::{PI, TAU};
+use std::fs;
+use std::path::{Path, PathBuf};
+use std::process::{Command, Output, Stdio};
+
+/// An empty folder of this test.
+pub fn folder(name: &str) -> PathBuf {
+    let folder = Path::new(env!("CARGO_TARGET_TMPDIR")).join(name);
+    let _ = fs::remove_dir_all(&folder);
+    fs::create_dir_all(&folder).unwrap();
+    folder
+}
+
+pub fn lenakkum(folder: &Path, words: &str) -> Output {
+    with_input(folder, words, Stdio::null())
+}
+
+pub fn with_input(folder: &Path, words: &str, input: Stdio) -> Output {
+    let mut command = Command::new(env!("CARGO_BIN_EXE_lenakkum"));
+    command.current_dir(folder).args(words.split_whitespace()).stdin(input).output().unwrap()
+}
+
+pub fn file_name(path: &Path) -> String {
+    path.file_name().unwrap().to_str().unwrap().to_string()
+}
+
+pub fn text(bytes: &[u8]) -> String {
+    String::from_utf8(bytes.to_vec()).unwrap()
+}
+
+pub fn names(folder: &Path) -> Vec<String> {
+    let mut names: Vec<String> =
+        fs::read_dir(folder).unwrap().map(|e| e.unwrap().file_name().into_string().unwrap()).collect();
+    names.sort();
+    names
+}
+
+pub fn bytes(samples: impl IntoIterator<Item = (f64, f64)>) -> Vec<u8> {
+    samples.into_iter().flat_map(|(re, im)| [re as f32, im as f32]).flat_map(f32::to_le_bytes).collect()
+}
+
+/// 300 samples with one key-down: document 01's example.
+pub fn one() -> Vec<u8> {
+    bytes((0..300).map(|k| (if (100..200).contains(&k) { 1.0 } else { 0.0 }, 0.0)))
+}
+
+pub const ONE: &str = "(run 0\n(size 300 8 37)\n(keys 1 1 0 1 0)\n(air 101)\n(blocks 0 0 0 37)\n(key 96 197)\n\
+                   (hypothesis one)\n(buffer kept))\n";
+
+/// A strong sender of 21 key-downs with a gap in the middle, in which a weak one 60 Hz away keys twice: it is taken.
+pub fn two() -> Vec<u8> {
+    bytes(valley(21, 60.0, 5e-3))
+}
+
+/// The samples of a strong sender of so many key-downs, with ramps of so many seconds, and of a weak one so many Hz
+/// away that keys twice in its widest gap.
+pub fn valley(key_downs: usize, offset_hz: f64, rise: f64) -> Vec<(f64, f64)> {
+    let fs = 3_000.0;
+    let marks: Vec<f64> = (0..key_downs).map(|i| 12.0 + 78.5 * i as f64 + if i > 9 { 384.0 } else { 0.0 }).collect();
+    let level = |k: f64, starts: &[f64], length: f64, rise: f64| -> f64 {
+        starts.iter().map(|s| ramp((k - s) / fs, rise) - ramp((k - s - length) / fs, rise)).sum()
+    };
+    let sample = |k: f64| {
+        let (strong, weak) = (level(k, &marks, 62.5, rise), 0.25 * level(k, &[850.0, 1_010.0], 85.0, 5e-3));
+        let angle = TAU * offset_hz * k / fs + 1.0;
+        // A little of a tone far away in place of noise.
+        let far = 0.002 * (TAU * 0.37 * k).cos();
+        (strong + weak * angle.cos() + far, weak * angle.sin())
+    };
+    (0..2_048).map(|k| sample(k as f64)).collect()
+}
+
+fn ramp(t: f64, rise: f64) -> f64 {
+    if t <= -rise / 2.0 {
+        0.0
+    } else if t >= rise / 2.0 {
+        1.0
+    } else {
+        0.5 + 0.5 * (PI * t / rise).sin()
+    }
+}
+
+pub fn meta(kind: &str, rate: &str) -> String {
+    format!(r#"{{"global": {{"core:datatype": "{kind}", "core:sample_rate": {rate}}}, "captures": []}}"#)
+}
+
+/// The repository's example recordings that are whole samples, and not too many for tankair.
+pub fn examples() -> Vec<PathBuf> {
+    let folder = Path::new(env!("CARGO_MANIFEST_DIR")).join("../../examples");
+    let recordings = fs::read_dir(folder).unwrap().map(|e| e.unwrap().path());
+    let whole = |path: &PathBuf| {
+        let size = fs::metadata(path).unwrap().len();
+        path.extension().map_or(false, |e| e == "iq") && size > 0 && size % 8 == 0 && size <= 16_384
+    };
+    let mut found: Vec<PathBuf> = recordings.filter(whole).collect();
+    found.sort();
+    assert!(found.len() >= 6, "{found:?}");
+    found
+}
+
+/// Each line as JSON.
+pub fn json_lines(said: &Output) -> Vec<Value> {
+    text(&said.stdout).lines().map(|line| serde_json::from_str(line).unwrap()).collect()
+}

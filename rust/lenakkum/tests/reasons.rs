@@ -1,0 +1,110 @@
+//! Why a recording was kept: the four conditions in words, held to what the run did.
+
+mod common;
+
+use common::*;
+use serde_json::Value;
+use std::fs;
+use std::path::Path;
+
+/// How the words of each condition begin, where it fails.
+const FAILS: [&[&str]; 4] = [
+    &["the gaps hold no second sender: ", "the gaps hold something that does not key: ", "it cannot be told what"],
+    &[" key-downs were fitted (at least 20 are needed)"],
+    &["the carrier was found at "],
+    &["the sender's rest, over the neighbour's level, is "],
+];
+
+/// The run in JSON, and which of the four conditions it says failed.
+fn kept_because(folder: &Path, words: &str) -> (Value, Vec<usize>) {
+    let said = lenakkum(folder, &format!("run {words} --rate 3000 --json"));
+    let json = json_lines(&said).remove(0);
+    let which = |reason: &Value| {
+        let reason = reason.as_str().unwrap();
+        FAILS.iter().position(|words| words.iter().any(|w| reason.contains(w))).unwrap()
+    };
+    let failed = json["kept_because"].as_array().unwrap().iter().map(which).collect();
+    (json, failed)
+}
+
+/// Recordings of which one condition fails and no other, and one of which none does.
+fn alone(folder: &Path) -> [(&'static str, Option<usize>); 7] {
+    fs::write(folder.join("two.cf32"), two()).unwrap();
+    fs::write(folder.join("near.cf32"), bytes(valley(21, 4.0, 5e-3))).unwrap();
+    fs::write(folder.join("few.cf32"), bytes(valley(19, 60.0, 5e-3))).unwrap();
+    fs::write(folder.join("hard.cf32"), bytes(valley(21, 60.0, 1e-4))).unwrap();
+    [
+        ("two.cf32", None),
+        ("near.cf32", Some(0)),
+        ("few.cf32", Some(1)),
+        ("two.cf32 --hint 700", Some(2)),
+        ("two.cf32 --hint -5.2", Some(2)),
+        ("two.cf32 --hint -4.8", None),
+        ("hard.cf32", Some(3)),
+    ]
+}
+
+#[test]
+fn each_condition_alone() {
+    let folder = folder("alone");
+    for (words, expected) in alone(&folder) {
+        let (json, failed) = kept_because(&folder, words);
+        assert_eq!(failed, expected.into_iter().collect::<Vec<_>>(), "{words}: {}", json["kept_because"]);
+        assert_eq!(json["buffer"] == "taken", failed.is_empty(), "{words}");
+    }
+}
+
+/// Over every stored recording that is run, at several hints.
+#[test]
+fn reasons_are_there_exactly_where_a_recording_was_kept() {
+    let (mut taken, mut kept) = (0, 0);
+    for path in examples().iter().filter(|p| !p.ends_with("not_a_number.iq")) {
+        for hint in ["0", "4.9", "5.2", "60", "-700", "1499"] {
+            let words = format!("{} --hint {hint}", file_name(path));
+            let (json, failed) = kept_because(path.parent().unwrap(), &words);
+            assert_eq!(json["buffer"] == "taken", failed.is_empty(), "{words}");
+            *if failed.is_empty() { &mut taken } else { &mut kept } += 1;
+            let fails = |condition| failed.contains(&condition);
+            assert_eq!(fails(0), json["hypothesis"] != "two", "{words}");
+            assert_eq!(fails(1), json["fitted"].as_u64().unwrap() < 20, "{words}");
+            assert_eq!(fails(2), json["carrier_step_hz"].as_f64().unwrap().abs() > 5.0, "{words}");
+            assert_eq!(fails(3), json["residual"]["clean"] == false, "{words}");
+        }
+    }
+    assert!(taken >= 2 && kept >= 20, "{taken} taken, {kept} kept");
+}
+
+#[test]
+fn in_words_after_the_report_and_on_the_line() {
+    let folder = folder("words");
+    fs::write(folder.join("one.cf32"), one()).unwrap();
+    fs::write(folder.join("two.cf32"), two()).unwrap();
+    let far = "the carrier was found at 0.00 Hz, 700.00 Hz from the hint (at most 5 Hz is allowed)";
+    let said = text(&lenakkum(&folder, "run two.cf32 --rate 3000 --hint 700 --explain").stdout);
+    let after: Vec<&str> = said.lines().skip_while(|l| !l.starts_with("(buffer")).collect();
+    assert_eq!(after[..2], ["(buffer kept))", "kept, since not all conditions hold:"]);
+    let told: Vec<bool> = after[2..].iter().map(|l| l.starts_with("  holds: ")).collect();
+    assert_eq!((told, after[4]), (vec![true, true, false, true], format!("  fails: {far}").as_str()));
+    let said = text(&lenakkum(&folder, "run two.cf32 --rate 3000 --explain").stdout);
+    assert!(said.contains("taken off, since all four conditions hold:\n") && !said.contains("fails"), "{said}");
+    let said = text(&lenakkum(&folder, "run one.cf32 two.cf32 --rate 3000 --hint 700").stdout);
+    let lines: Vec<&str> = said.lines().collect();
+    assert!(lines[0].contains("; kept because the gaps hold no second sender: 0 % of the gap blocks are hot (at least"));
+    assert!(lines[0].contains("; 1 key-downs were fitted (at least 20 are needed); "), "{}", lines[0]);
+    assert!(lines[1].ends_with(&format!("; kept because {far}")), "{}", lines[1]);
+    let said = text(&lenakkum(&folder, "run one.cf32 two.cf32 --rate 3000").stdout);
+    assert!(!said.lines().last().unwrap().contains("because"), "{said}");
+}
+
+#[cfg(feature = "pictures")]
+#[test]
+fn in_the_title_of_a_picture() {
+    let folder = folder("titles");
+    fs::write(folder.join("two.cf32"), two()).unwrap();
+    let drawn = |hint: &str| {
+        lenakkum(&folder, &format!("run two.cf32 --rate 3000 --hint {hint} --picture {hint}.svg"));
+        fs::read_to_string(folder.join(format!("{hint}.svg"))).unwrap()
+    };
+    assert!(drawn("700").contains("kept because the carrier was found at 0.00 Hz, 700.00 Hz from the hint (at most"));
+    assert!(!drawn("0").contains("because"));
+}
