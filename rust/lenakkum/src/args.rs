@@ -1,16 +1,23 @@
 //! The command line.
 
+use crate::datatype::Datatype;
+use crate::names;
+use crate::parts::{Choice, Extent};
 use crate::problem::Problem;
+use crate::reading::Reading;
+use crate::statement::VERSION;
+use crate::writing;
 use cancel::LIBRARY;
 use clap::error::ErrorKind;
 use clap::{Parser, Subcommand};
-use std::path::PathBuf;
+use std::collections::BTreeSet;
+use std::path::{Path, PathBuf};
 
 /// What the command line asks for.
 pub enum Wanted {
     /// A text: help or version.
     Text(String),
-    Run(Run),
+    Run(Box<Run>),
 }
 
 #[derive(Parser)]
@@ -28,58 +35,152 @@ enum Word {
 /// Runs recordings: finds the strong sender, decides what else is in its gaps, takes it off where the rules allow it
 #[derive(clap::Args)]
 pub struct Run {
-    /// Recordings: .cf32 (little-endian f32 pairs), SigMF (.sigmf-meta or .sigmf-data), or - for standard input
+    /// Recordings: SigMF (.sigmf-meta, .sigmf-data or an archive .sigmf), bare samples, or - for standard input
     #[arg(value_name = "FILE", required = true)]
     pub files: Vec<PathBuf>,
-    /// Samples a second of .cf32 files and standard input; SigMF brings its own
+    /// Samples a second of bare samples; SigMF brings its own
     #[arg(long, value_name = "HZ", value_parser = number, allow_hyphen_values = true)]
-    pub rate: Option<f64>,
+    rate: Option<f64>,
+    /// The type of bare samples, as SigMF names it: cf32 (little-endian, unless it says otherwise), ci16, cu8, ..
+    #[arg(long, value_name = "TYPE", default_value = None)]
+    format: Option<Datatype>,
     /// Where the strong sender is, from the recording's centre
     #[arg(long, value_name = "HZ", value_parser = number, allow_hyphen_values = true, default_value = "0")]
     pub hint: f64,
+    /// Of SigMF's captures the one of this number, from 0
+    #[arg(long, value_name = "N")]
+    capture: Option<usize>,
+    /// Begin here: seconds, as 12.5, or samples, as 40000samples
+    #[arg(long, value_name = "EXTENT")]
+    start: Option<Extent>,
+    /// Run at most so much: seconds or samples
+    #[arg(long, value_name = "EXTENT")]
+    length: Option<Extent>,
+    /// Run piece after piece of so much, seconds or samples; each has a report of its own
+    #[arg(long, value_name = "EXTENT")]
+    pieces: Option<Extent>,
     /// Report as JSON, with every figure, key-down and fit; one line for each recording
-    #[arg(long)]
+    #[arg(long, conflicts_with = "csv")]
     pub json: bool,
+    /// Report as CSV: a line with the columns' names, then a row for each recording
+    #[arg(long)]
+    pub csv: bool,
     /// Say after each report why the sender was taken off or the recording kept: four conditions, values and limits
     #[arg(long)]
     pub explain: bool,
-    /// Write the recording as the run leaves it: .cf32, or a SigMF pair if FILE is named as one
+    /// Write the recording as the run leaves it: f32 pairs, a SigMF pair if FILE is named as one; - for standard output
     #[arg(long, value_name = "FILE")]
     pub out: Option<PathBuf>,
+    /// Replace what --out names
+    #[arg(long)]
+    pub force: bool,
     /// Draw what the run saw and did
     #[cfg(feature = "pictures")]
     #[arg(long, value_name = "OUT.svg|png")]
     pub picture: Option<PathBuf>,
-    /// Add the file, its rate and hint, and the library's commit and digest to each report
+    /// Add to each report the recording's digest and date, rate and hint, the command's version, the library's commit
     #[arg(long)]
     pub statement: bool,
+}
+
+impl Run {
+    pub fn several(&self) -> bool {
+        self.files.len() > 1
+    }
+
+    /// Do samples go to standard output?
+    pub fn to_standard_output(&self) -> bool {
+        self.out.as_deref() == Some(Path::new("-"))
+    }
+
+    /// The file that `--out` names.
+    pub fn out_file(&self) -> Option<&Path> {
+        self.out.as_deref().filter(|_| !self.to_standard_output())
+    }
+
+    /// The file that `--picture` names.
+    #[cfg(feature = "pictures")]
+    pub fn picture_file(&self) -> Option<&Path> {
+        self.picture.as_deref()
+    }
+
+    #[cfg(not(feature = "pictures"))]
+    pub fn picture_file(&self) -> Option<&Path> {
+        None
+    }
+
+    /// Does it write files?
+    pub fn writes(&self) -> bool {
+        self.out_file().is_some() || self.picture_file().is_some()
+    }
+
+    pub fn reading(&self) -> Reading {
+        Reading { rate: self.rate, datatype: self.format, capture: self.capture, digest: self.statement }
+    }
+
+    pub fn choice(&self) -> Choice {
+        Choice { start: self.start, length: self.length, pieces: self.pieces }
+    }
+
+    /// What is wrong with the files that it would write.
+    fn checked(self) -> Result<Run, Problem> {
+        if self.to_standard_output() && self.several() {
+            return Err(Problem::with("--out -", "it is for one recording, and there are several"));
+        }
+        for (flag, pattern) in [("--out", self.out_file()), ("--picture", self.picture_file())] {
+            if let Some(pattern) = pattern {
+                names::checked(flag, pattern, self.several(), self.pieces.is_some())?;
+            }
+        }
+        #[cfg(feature = "pictures")]
+        if let Some(path) = &self.picture {
+            crate::picture::checked(path)?;
+        }
+        self.once()?;
+        self.nothing_lost()?;
+        Ok(self)
+    }
+
+    /// No file is to be written twice.
+    fn once(&self) -> Result<(), Problem> {
+        let mut all = BTreeSet::new();
+        for (i, path) in self.files.iter().enumerate() {
+            let of = names::Of { path, number: i + 1, piece: 1 };
+            let out = self.out_file().map_or_else(Vec::new, |out| writing::files(&names::named(out, of)));
+            let picture = self.picture_file().map(|picture| names::named(picture, of));
+            for file in out.into_iter().chain(picture) {
+                if !all.insert(file.clone()) {
+                    let why = "it would be written twice; {number} in its name tells recordings apart";
+                    return Err(Problem::with(file.display(), why));
+                }
+            }
+        }
+        Ok(())
+    }
+
+    /// No recording that is there is to be replaced, unless that is said. Pieces are looked at one by one.
+    fn nothing_lost(&self) -> Result<(), Problem> {
+        match self.out_file() {
+            Some(out) if !self.force && self.pieces.is_none() => {
+                self.files.iter().enumerate().try_for_each(|(i, path)| {
+                    writing::nothing_lost(&names::named(out, names::Of { path, number: i + 1, piece: 1 }), &self.files)
+                })
+            }
+            _ => Ok(()),
+        }
+    }
 }
 
 /// Reads the command line. What is wrong with it is one line.
 pub fn parse() -> Result<Wanted, Problem> {
     match Line::try_parse() {
-        Ok(Line { word: Word::Run(run) }) => checked(run).map(Wanted::Run),
+        Ok(Line { word: Word::Run(run) }) => run.checked().map(|run| Wanted::Run(Box::new(run))),
         Err(said) if !said.use_stderr() => Ok(Wanted::Text(said.to_string())),
         Err(said) if said.kind() == ErrorKind::DisplayHelpOnMissingArgumentOrSubcommand => {
             Err(Problem::Wrong("what is to be done? `run` is known (--help says more)".to_string()))
         }
         Err(said) => Err(Problem::Wrong(one_line(&said.to_string()))),
     }
-}
-
-/// What goes with one recording does not go with several.
-fn checked(run: Run) -> Result<Run, Problem> {
-    if run.out.is_some() && run.files.len() > 1 {
-        return Err(Problem::with("--out", "it is for one recording, and there are several"));
-    }
-    #[cfg(feature = "pictures")]
-    if let Some(path) = &run.picture {
-        if run.files.len() > 1 {
-            return Err(Problem::with("--picture", "it is for one recording, and there are several"));
-        }
-        crate::picture::checked(path)?;
-    }
-    Ok(run)
 }
 
 /// The sentence that clap says first, with its list if it has one, and where to read more.
@@ -99,6 +200,6 @@ fn number(text: &str) -> Result<f64, String> {
 
 /// The command's version, and the library that it is linked with. Made once, so it may stay.
 fn version() -> &'static str {
-    let text = format!("{}\ncommit {}\nlibrary {}", env!("CARGO_PKG_VERSION"), LIBRARY.commit, LIBRARY.sha256);
+    let text = format!("{VERSION}\ncommit {}\nlibrary {}", LIBRARY.commit, LIBRARY.sha256);
     Box::leak(text.into_boxed_str())
 }

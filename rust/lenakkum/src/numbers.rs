@@ -18,3 +18,8 @@ pub fn rounded(x: f64, places: usize) -> String {
         _ => text,
     }
 }
+
+/// A number of seconds or the like, to the millionth, without zeros at its end.
+pub fn plain(x: f64) -> String {
+    ((x * 1e6).round() / 1e6).to_string()
+}

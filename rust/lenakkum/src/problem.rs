@@ -5,12 +5,12 @@ use std::fmt;
 use std::process::ExitCode;
 
 /// What kept a recording from being run, or a command from being done.
-#[derive(Debug)]
+#[derive(Clone, Debug)]
 pub enum Problem {
     /// The command line, a file or an output: what is wrong with it.
     Wrong(String),
-    /// The recording of this name was refused.
-    Refused(String, Refusal),
+    /// The recording of this name was refused; what to do.
+    Refused(String, Refusal, &'static str),
 }
 
 /// Status of a command with a refused recording.
@@ -22,6 +22,23 @@ impl Problem {
     /// Something wrong with this, and what.
     pub fn with(what: impl fmt::Display, why: impl fmt::Display) -> Problem {
         Problem::Wrong(format!("{what}: {why}"))
+    }
+
+    /// A recording that was refused.
+    pub fn refused(name: &str, refusal: Refusal) -> Problem {
+        let advice = match refusal {
+            Refusal::Size => ": --start and --length choose a part, --pieces SECONDS runs all of it part by part",
+            _ => "",
+        };
+        Problem::Refused(name.to_string(), refusal, advice)
+    }
+
+    /// Of a recording that was refused, which refusal it was.
+    pub fn refusal(&self) -> Option<Refusal> {
+        match self {
+            Problem::Wrong(_) => None,
+            Problem::Refused(_, refusal, _) => Some(*refusal),
+        }
     }
 
     pub fn status(&self) -> ExitCode {
@@ -45,7 +62,9 @@ impl fmt::Display for Problem {
     fn fmt(&self, f: &mut fmt::Formatter) -> fmt::Result {
         match self {
             Problem::Wrong(line) => f.write_str(line),
-            Problem::Refused(name, refusal) => write!(f, "{name}: refused ({}): {refusal}", refusal.number()),
+            Problem::Refused(name, refusal, advice) => {
+                write!(f, "{name}: refused ({}): {refusal}{advice}", refusal.number())
+            }
         }
     }
 }

@@ -1,65 +1,179 @@
 //! Recordings from files and standard input.
 
+use crate::archive;
+use crate::content;
+use crate::datatype::Datatype;
 use crate::problem::Problem;
-use crate::sigmf;
+use crate::sigmf::{self, Metadata, Told};
+use crate::stretches::{self, Anywhere, Bytes, Stretch};
 use num_complex::Complex32;
-use std::fs::File;
-use std::io::{self, Read};
+use std::collections::VecDeque;
+use std::fs::{self, File};
+use std::io::{self, Read, Seek, SeekFrom};
 use std::path::Path;
+use tempfile::SpooledTempFile;
 
-/// A recording, by the name that it goes under.
-pub struct Recording {
+/// The most samples that are run at once.
+pub const MOST: usize = 1 << 20;
+
+/// How standard input is called in what is said of it.
+pub const STANDARD: &str = "standard input";
+
+/// What the command line says about how files are read.
+#[derive(Clone, Copy)]
+pub struct Reading {
+    pub rate: Option<f64>,
+    pub datatype: Option<Datatype>,
+    pub capture: Option<usize>,
+    /// Is the digest of the samples asked for?
+    pub digest: bool,
+}
+
+/// A recording that is read from its first sample to its last.
+pub struct Source {
     pub name: String,
-    pub samples: Vec<Complex32>,
     pub rate: f64,
-}
-
-/// Bytes of a sample: two f32, little-endian.
-const SAMPLE: usize = 8;
-
-/// One sample more than is accepted: what is longer need not be read to its end to be refused.
-const MOST: usize = SAMPLE * ((1 << 20) + 1);
-
-/// The recording of this name: `-` is standard input. `rate` is that of the command line.
-pub fn recording(path: &Path, rate: Option<f64>) -> Result<Recording, Problem> {
-    let name = name(path);
-    if let Some(pair) = sigmf::pair(path) {
-        let rate = sigmf::rate(&pair.meta)?;
-        let samples = samples(&pair.data.display().to_string(), File::open(&pair.data))?;
-        return Ok(Recording { name, samples, rate });
-    }
-    let rate = rate.ok_or_else(|| Problem::with(&name, "--rate HZ is needed: the file does not say its rate"))?;
-    let samples = if is_standard(path) { samples(&name, Ok(io::stdin())) } else { samples(&name, File::open(path)) }?;
-    Ok(Recording { name, samples, rate })
-}
-
-fn is_standard(path: &Path) -> bool {
-    path == Path::new("-")
+    /// Of its file of samples.
+    pub sha256: Option<String>,
+    pub told: Told,
+    datatype: Datatype,
+    bytes: Bytes,
+    /// Bytes read or passed over.
+    read: u64,
 }
 
 /// How a recording is called in what is said of it.
 pub fn name(path: &Path) -> String {
     if is_standard(path) {
-        "standard input".to_string()
+        STANDARD.to_string()
     } else {
         path.display().to_string()
     }
 }
 
-fn samples(name: &str, from: io::Result<impl Read>) -> Result<Vec<Complex32>, Problem> {
-    let mut bytes = Vec::new();
-    from.and_then(|from| from.take(MOST as u64).read_to_end(&mut bytes)).map_err(|e| Problem::with(name, e))?;
-    match bytes.len() {
-        0 => Err(Problem::with(name, "it is empty")),
-        n if n % SAMPLE != 0 => Err(Problem::with(
-            name,
-            format!("its {n} bytes are not a whole number of samples (two f32 of {} bytes each)", SAMPLE / 2),
-        )),
-        _ => Ok(bytes.chunks_exact(SAMPLE).map(sample).collect()),
+pub fn is_standard(path: &Path) -> bool {
+    path == Path::new("-")
+}
+
+impl Source {
+    /// The recording of this name: `-` is standard input.
+    pub fn open(path: &Path, how: &Reading) -> Result<Source, Problem> {
+        if archive::is_archive(path) {
+            let mut file = opened(path)?;
+            let (metadata, data) = archive::opened(path, &mut file)?;
+            return Source::with_metadata(name(path), &metadata, Box::new(file), data, how);
+        }
+        if let Some(pair) = sigmf::pair(path) {
+            let meta = pair.meta.display().to_string();
+            let text = fs::read(&pair.meta).map_err(|e| Problem::with(&meta, e))?;
+            let metadata = Metadata::parse(&meta, &text)?;
+            let data = metadata.dataset()?.map_or(pair.data.clone(), |name| pair.meta.with_file_name(name));
+            if path == pair.data && data != pair.data {
+                return Err(Problem::with(&meta, format!("its samples are in another file: {}", data.display())));
+            }
+            let file = opened(&data)?;
+            let bytes = file.metadata().map_err(|e| Problem::with(data.display(), e))?.len();
+            let all = Stretch { from: 0, bytes };
+            return Source::with_metadata(name(path), &metadata, Box::new(file), all, how);
+        }
+        Source::bare(path, how)
+    }
+
+    /// With metadata, and its samples in this stretch of a file.
+    fn with_metadata(
+        name: String,
+        metadata: &Metadata,
+        mut file: Box<dyn Anywhere>,
+        data: Stretch,
+        how: &Reading,
+    ) -> Result<Source, Problem> {
+        let (rate, datatype) = (metadata.rate(how.rate)?, metadata.datatype(how.datatype)?);
+        let (ahead, told) = metadata.layout(data, datatype.size(), how.capture)?;
+        if let Some(written) = metadata.sha512() {
+            stretches::same_sha512(&name, &mut *file, data, written)?;
+        }
+        let sha256 = digest(&name, &mut *file, data, how)?;
+        let bytes = Bytes::Stretches(file, ahead);
+        let mut source = Source { name, rate, sha256, told, datatype, bytes, read: 0 };
+        if !metadata.has_header() {
+            source.look()?;
+        }
+        Ok(source)
+    }
+
+    /// Samples with nothing that describes them.
+    fn bare(path: &Path, how: &Reading) -> Result<Source, Problem> {
+        let name = name(path);
+        let wrong = |e: io::Error| Problem::with(&name, e);
+        let mut bytes = if is_standard(path) {
+            Bytes::Stream(Box::new(io::stdin()))
+        } else {
+            let file = File::open(path).map_err(wrong)?;
+            let regular = file.metadata().map_err(wrong)?.is_file();
+            if regular { Bytes::of_file(file) } else { Ok(Bytes::Stream(Box::new(file))) }.map_err(wrong)?
+        };
+        let datatype = how.datatype.unwrap_or(Datatype::CF32_LE);
+        content::checked(&name, &bytes.first(content::LOOKED_AT).map_err(wrong)?, datatype)?;
+        let rate = how.rate;
+        let rate = rate.ok_or_else(|| Problem::with(&name, "--rate HZ is needed: the file does not say its rate"))?;
+        if how.capture.is_some() {
+            return Err(Problem::with(&name, "--capture is for files with metadata of SigMF, and there are none"));
+        }
+        let (bytes, sha256) = if how.digest { digested(bytes).map_err(wrong)? } else { (bytes, None) };
+        Ok(Source { name, rate, sha256, told: Told::default(), datatype, bytes, read: 0 })
+    }
+
+    /// Stops at what is no recording.
+    fn look(&mut self) -> Result<(), Problem> {
+        let first = self.bytes.first(content::LOOKED_AT).map_err(|e| Problem::with(&self.name, e))?;
+        content::checked(&self.name, &first, self.datatype)
+    }
+
+    /// Passes over so many samples, or fewer if there are not so many; how many.
+    pub fn skip(&mut self, samples: u64) -> Result<u64, Problem> {
+        let size = self.datatype.size() as u64;
+        let passed = self.bytes.skip(samples.saturating_mul(size)).map_err(|e| Problem::with(&self.name, e))?;
+        self.read += passed;
+        Ok(passed / size)
+    }
+
+    /// The next samples, at most so many; none at the end.
+    pub fn next(&mut self, most: usize) -> Result<Vec<Complex32>, Problem> {
+        let size = self.datatype.size();
+        let mut bytes = Vec::new();
+        let read = self.bytes.by_ref().take((most * size) as u64).read_to_end(&mut bytes);
+        self.read += read.map_err(|e| Problem::with(&self.name, e))? as u64;
+        if bytes.len() % size != 0 {
+            let (all, name) = (self.read, self.datatype.name());
+            let why = format!("its {all} bytes are not a whole number of samples ({name}: {size} bytes each)");
+            return Err(Problem::with(&self.name, why));
+        }
+        Ok(self.datatype.samples(&bytes))
     }
 }
 
-fn sample(bytes: &[u8]) -> Complex32 {
-    let part = |at: usize| f32::from_le_bytes([bytes[at], bytes[at + 1], bytes[at + 2], bytes[at + 3]]);
-    Complex32::new(part(0), part(SAMPLE / 2))
+fn opened(path: &Path) -> Result<File, Problem> {
+    File::open(path).map_err(|e| Problem::with(path.display(), e))
+}
+
+fn digest(name: &str, file: &mut dyn Anywhere, data: Stretch, how: &Reading) -> Result<Option<String>, Problem> {
+    if !how.digest {
+        return Ok(None);
+    }
+    stretches::sha256(file, data).map(Some).map_err(|e| Problem::with(name, e))
+}
+
+/// Bytes with their digest. Those of a stream are kept, in memory or in a file, to be read once more.
+fn digested(bytes: Bytes) -> io::Result<(Bytes, Option<String>)> {
+    let mut file: Box<dyn Anywhere> = match bytes {
+        Bytes::Stretches(file, _) => file,
+        Bytes::Stream(mut stream) => {
+            let mut kept = SpooledTempFile::new(64 << 20);
+            io::copy(&mut stream, &mut kept)?;
+            Box::new(kept)
+        }
+    };
+    let all = Stretch { from: 0, bytes: file.seek(SeekFrom::End(0))? };
+    let sha256 = stretches::sha256(&mut *file, all)?;
+    Ok((Bytes::Stretches(file, VecDeque::from([all])), Some(sha256)))
 }

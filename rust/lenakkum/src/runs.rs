@@ -1,116 +1,229 @@
-//! Runs one recording, or several one after another.
+//! Runs one recording, or several on all processors, and says what came of each in the order given.
 
 use crate::args::Run;
+use crate::console::Console;
+use crate::names;
+use crate::outcome::{Outcome, Subject};
+use crate::parts::{Part, Parts};
 #[cfg(feature = "pictures")]
 use crate::picture;
-use crate::problem::{self, Problem};
-use crate::reading::{self, Recording};
-use crate::reasons;
-use crate::report::{self, Statement};
-use crate::writing::Staged;
-use cancel::Workspace;
-use indicatif::{ProgressBar, ProgressStyle};
-use std::io::{self, Write};
+use crate::problem::Problem;
+use crate::reading::{self, Source};
+use crate::statement::Statement;
+use crate::writing::{self, Staged};
+use crate::{report, tables};
+use cancel::{KeyDown, Ran, Workspace};
+use num_complex::Complex32;
+use rayon::iter::{ParallelBridge, ParallelIterator};
+use std::collections::BTreeMap;
+use std::path::Path;
 use std::process::ExitCode;
+use std::sync::atomic::{AtomicBool, Ordering};
+use std::sync::mpsc::{self, Receiver};
+use std::thread;
 
 /// Runs all that the command line names.
 pub fn run(args: &Run) -> Result<ExitCode, Problem> {
-    let mut workspace = Workspace::new();
-    if let [_] = args.files[..] {
-        return one(args, &mut workspace);
+    let mut console = Console::new(args.files.len(), args.to_standard_output());
+    if args.csv {
+        console.say(&tables::csv_header())?;
     }
-    several(args, &mut workspace)
+    if args.several() {
+        several(args, &mut console)?;
+    } else {
+        one(args, &mut console)?;
+    }
+    Ok(console.end())
 }
 
-/// One recording: its whole report.
-fn one(args: &Run, workspace: &mut Workspace) -> Result<ExitCode, Problem> {
-    let mut recording = reading::recording(&args.files[0], args.rate)?;
-    match ran(args, workspace, &mut recording, Form::Whole) {
-        Ok(said) => print(&said).map(|()| ExitCode::SUCCESS),
-        Err((said, problem)) => {
-            print(&said)?;
-            Err(problem)
+fn one(args: &Run, console: &mut Console) -> Result<(), Problem> {
+    let mut wrong = None;
+    file(args, 1, &args.files[0], &mut Workspace::new(), &mut |outcome| match console.take(outcome) {
+        Ok(read) => read || args.writes(),
+        Err(problem) => {
+            wrong = Some(problem);
+            false
+        }
+    });
+    wrong.map_or(Ok(()), Err)
+}
+
+/// What came of a piece of the file of this number, or that there are no more.
+type Message = (usize, Option<Outcome>);
+
+/// Several files, each on a processor of its own as far as there are any. None stops the others.
+fn several(args: &Run, console: &mut Console) -> Result<(), Problem> {
+    let (send, receive) = mpsc::channel::<Message>();
+    let stop = AtomicBool::new(false);
+    thread::scope(|scope| {
+        let stop = &stop;
+        scope.spawn(move || {
+            let files = args.files.iter().enumerate().par_bridge();
+            files.for_each_with((send, Workspace::new()), |(send, workspace), (i, path)| {
+                let go_on = || !stop.load(Ordering::Relaxed);
+                if go_on() {
+                    file(args, i + 1, path, workspace, &mut |outcome| send.send((i, Some(outcome))).is_ok() && go_on());
+                }
+                let _ = send.send((i, None));
+            });
+        });
+        let said = in_order(args, &receive, console, stop);
+        stop.store(true, Ordering::Relaxed);
+        said
+    })
+}
+
+/// Says what came of each, those that come too early later.
+fn in_order(args: &Run, from: &Receiver<Message>, console: &mut Console, stop: &AtomicBool) -> Result<(), Problem> {
+    let mut early: BTreeMap<usize, Vec<Option<Outcome>>> = BTreeMap::new();
+    let mut next = 0;
+    for (i, outcome) in from {
+        early.entry(i).or_default().push(outcome);
+        while let Some(outcomes) = early.remove(&next) {
+            let at = next;
+            for outcome in outcomes {
+                let outcome = match outcome {
+                    Some(outcome) => outcome,
+                    None => {
+                        console.step(&reading::name(&args.files[at]));
+                        next += 1;
+                        continue;
+                    }
+                };
+                if !console.take(outcome)? && !args.writes() {
+                    stop.store(true, Ordering::Relaxed);
+                }
+            }
+            if next == at {
+                break;
+            }
+        }
+    }
+    Ok(())
+}
+
+/// Runs a file: what came of it, or of each of its pieces, goes to `each`, which says whether to go on.
+fn file(args: &Run, number: usize, path: &Path, workspace: &mut Workspace, each: &mut dyn FnMut(Outcome) -> bool) {
+    let parts = Source::open(path, &args.reading()).and_then(|source| Parts::new(source, &args.choice()));
+    let mut parts = match parts {
+        Ok(parts) => parts,
+        Err(problem) => {
+            each(not_read(args, path, problem));
+            return;
+        }
+    };
+    loop {
+        let go_on = match parts.next() {
+            Ok(None) => false,
+            Ok(Some(part)) => {
+                let of = names::Of { path, number, piece: part.piece.unwrap_or(1) };
+                each(ran(args, workspace, subject(args, parts.source(), &part), part.samples, of))
+            }
+            Err(problem) => {
+                each(not_read(args, path, problem));
+                false
+            }
+        };
+        if !go_on {
+            return;
         }
     }
 }
 
-/// Several recordings: a line each, and at the end those that were not run. None stops the others.
-fn several(args: &Run, workspace: &mut Workspace) -> Result<ExitCode, Problem> {
-    let bar = ProgressBar::new(args.files.len() as u64);
-    let style = ProgressStyle::with_template("{bar:40} {pos}/{len} {msg}").expect("a template that is right");
-    bar.set_style(style);
-    let mut problems = Vec::new();
-    for path in &args.files {
-        bar.set_message(reading::name(path));
-        let said = reading::recording(path, args.rate)
-            .map_err(|problem| (String::new(), problem))
-            .and_then(|mut recording| ran(args, workspace, &mut recording, Form::Line));
-        let said = said.unwrap_or_else(|(said, problem)| {
-            problems.push(problem);
-            said
-        });
-        bar.suspend(|| print(&said))?;
-        bar.inc(1);
+fn subject(args: &Run, source: &Source, part: &Part) -> Subject {
+    let statement = args.statement.then(|| {
+        let date = source.told.date(part.first, source.rate);
+        Statement::new(&source.name, source.sha256.clone(), date, source.rate, args.hint)
+    });
+    Subject {
+        name: source.name.clone(),
+        rate: source.rate,
+        hint: args.hint,
+        first: part.first,
+        samples: part.samples.len(),
+        piece: part.piece,
+        told: source.told.clone(),
+        explain: args.explain,
+        statement,
     }
-    bar.finish_and_clear();
-    if !problems.is_empty() {
-        eprintln!("lenakkum: {} of {} were not run:", problems.len(), args.files.len());
-    }
-    for problem in &problems {
-        eprintln!("lenakkum: {problem}");
-    }
-    Ok(problem::status(&problems))
 }
 
-/// How much is said of a run.
-#[derive(Clone, Copy, PartialEq)]
-enum Form {
-    Whole,
-    Line,
+fn not_read(args: &Run, path: &Path, problem: Problem) -> Outcome {
+    let name = reading::name(path);
+    let said = match () {
+        _ if args.json => tables::json_of_problem(&name, None, &problem),
+        _ if args.csv => tables::csv_of_problem(&name, None, &problem),
+        _ => String::new(),
+    };
+    Outcome { said, left: None, problem: Some(problem) }
 }
 
-/// Runs a recording, writes what is to be written, and gives what is said of it. A refusal writes no file.
+/// Runs samples, writes what is to be written, and gives what is said of them. A refusal writes no file.
 fn ran(
     args: &Run,
     workspace: &mut Workspace,
-    recording: &mut Recording,
-    form: Form,
-) -> Result<String, (String, Problem)> {
-    let Recording { name, samples, rate } = recording;
-    let statement = Statement::new(name, *rate, args.hint);
-    let statement = if args.statement { Some(&statement) } else { None };
-    #[cfg(feature = "pictures")]
-    let before = if args.picture.is_some() { samples.clone() } else { Vec::new() };
-    workspace.make_room(samples.len(), *rate);
-    let ran = workspace.run(samples, *rate, args.hint).map_err(|refusal| {
-        let said = match (args.json, form) {
-            (true, _) => report::refused_json(name, refusal, statement),
-            (false, Form::Whole) => report::refused(refusal, statement),
-            (false, Form::Line) => String::new(),
-        };
-        (said, Problem::Refused(name.clone(), refusal))
-    })?;
-    // All files are complete before the first is put in its place.
-    let wrong = |problem| (String::new(), problem);
-    let mut staged = Vec::new();
-    if let Some(out) = &args.out {
-        staged.extend(Staged::recording(out, samples, *rate).map_err(wrong)?);
+    subject: Subject,
+    mut samples: Vec<Complex32>,
+    of: names::Of<'_>,
+) -> Outcome {
+    let before = if args.picture_file().is_some() { samples.clone() } else { Vec::new() };
+    workspace.make_room(samples.len(), subject.rate);
+    let ran = workspace.run(&mut samples, subject.rate, args.hint).map_err(|r| Problem::refused(&subject.title(), r));
+    let written = ran.and_then(|ran| written(args, &subject, &before, &samples, &ran, of).map(|()| ran));
+    let left = |samples: &[Complex32]| args.to_standard_output().then(|| writing::bytes(samples));
+    match written {
+        Ok(ran) => Outcome { said: said(args, &subject, &ran), left: left(&samples), problem: None },
+        Err(problem) => {
+            // A refused piece goes on as it came, so that those after it stand where they stood.
+            let left = subject.piece.and_then(|_| left(&samples));
+            Outcome { said: said_of(args, &subject, &problem), left, problem: Some(problem) }
+        }
     }
-    #[cfg(feature = "pictures")]
-    if let Some(path) = &args.picture {
-        staged.push(picture::of_run(path, name, *rate, &before, samples, &ran).map_err(wrong)?);
-    }
-    staged.into_iter().try_for_each(Staged::put).map_err(wrong)?;
-    let said = match (args.json, form) {
-        (true, _) => return Ok(report::json(name, &ran, statement)),
-        (false, Form::Whole) => report::text(&ran, statement),
-        (false, Form::Line) => report::line(name, &ran, statement),
-    };
-    Ok(if args.explain { said + &reasons::explained(&ran.figures) } else { said })
 }
 
-/// Onto standard output.
-pub fn print(text: &str) -> Result<(), Problem> {
-    let mut out = io::stdout().lock();
-    out.write_all(text.as_bytes()).and_then(|()| out.flush()).map_err(|e| Problem::with("standard output", e))
+/// All files are complete before the first is put in its place.
+fn written(
+    args: &Run,
+    subject: &Subject,
+    before: &[Complex32],
+    after: &[Complex32],
+    ran: &Ran<'_>,
+    of: names::Of<'_>,
+) -> Result<(), Problem> {
+    let mut staged = Vec::new();
+    if let Some(out) = args.out_file() {
+        let out = names::named(out, of);
+        if !args.force {
+            writing::nothing_lost(&out, &args.files)?;
+        }
+        let key_downs: Vec<KeyDown> = ran.elements().collect();
+        staged.extend(Staged::recording(&out, subject, after, &key_downs)?);
+    }
+    #[cfg(feature = "pictures")]
+    if let Some(picture) = args.picture_file() {
+        staged.push(picture::of_run(&names::named(picture, of), subject, before, after, ran)?);
+    }
+    #[cfg(not(feature = "pictures"))]
+    let _ = before;
+    staged.into_iter().try_for_each(Staged::put)
+}
+
+/// What is said of a run.
+fn said(args: &Run, subject: &Subject, ran: &Ran<'_>) -> String {
+    match () {
+        _ if args.json => tables::json(subject, ran),
+        _ if args.csv => tables::csv(subject, ran),
+        _ if args.several() => report::line(subject, ran),
+        _ => report::text(subject, ran),
+    }
+}
+
+/// What is said of samples that were refused, or of a run that could not be written.
+fn said_of(args: &Run, subject: &Subject, problem: &Problem) -> String {
+    match problem.refusal() {
+        _ if args.json => tables::json_of_problem(&subject.name, Some(subject), problem),
+        _ if args.csv => tables::csv_of_problem(&subject.name, Some(subject), problem),
+        Some(refusal) if !args.several() => report::refused(subject, refusal),
+        _ => String::new(),
+    }
 }

@@ -1,12 +1,13 @@
-//! SigMF pairs: a file of metadata in JSON beside a file of samples.
+//! SigMF: what metadata say of a file of samples, and the metadata of what a run leaves.
 
+use crate::datatype::{self, Datatype};
 use crate::problem::Problem;
-use serde_json::{json, Value};
-use std::fs;
+use crate::stretches::Stretch;
+use cancel::KeyDown;
+use chrono::{DateTime, Duration, SecondsFormat};
+use serde_json::{json, Map, Value};
+use std::collections::VecDeque;
 use std::path::{Path, PathBuf};
-
-/// The one sample type that is read.
-const TYPE: &str = "cf32_le";
 
 /// The two files of a recording.
 pub struct Pair {
@@ -24,39 +25,282 @@ pub fn pair(path: &Path) -> Option<Pair> {
     }
 }
 
-/// The rate that the metadata name, if the samples are of the type that is read.
-pub fn rate(meta: &Path) -> Result<f64, Problem> {
-    let wrong = |why: String| Problem::with(meta.display(), why);
-    let text = fs::read_to_string(meta).map_err(|e| wrong(e.to_string()))?;
-    let parsed: Value = serde_json::from_str(&text).map_err(|e| wrong(format!("it is not JSON: {e}")))?;
-    let of = |name: &str| parsed.get("global").and_then(|g| g.get(name));
-    match of("core:datatype") {
-        Some(Value::String(kind)) if kind == TYPE => {}
-        Some(kind) => return Err(wrong(format!("the sample type is {kind}, and only \"{TYPE}\" is read"))),
-        None => return Err(wrong("it does not say the sample type (core:datatype)".to_string())),
+/// What metadata say.
+pub struct Metadata {
+    /// By which it goes in what is said of it.
+    name: String,
+    global: Map<String, Value>,
+    captures: Vec<Capture>,
+}
+
+/// From this sample on, the receiver stood so.
+#[derive(Clone, Debug, PartialEq)]
+pub struct Capture {
+    /// The first sample, counted from the first in the file.
+    start: u64,
+    header_bytes: u64,
+    global_index: Option<u64>,
+    frequency: Option<f64>,
+    date: Option<String>,
+}
+
+/// What is told of a recording beside its samples: nothing where it has no metadata.
+#[derive(Clone, Debug, Default)]
+pub struct Told {
+    global: Map<String, Value>,
+    captures: Vec<Capture>,
+}
+
+/// Of the global object, what goes with a recording wherever it goes.
+const DESCRIPTION: [&str; 5] = ["core:description", "core:author", "core:license", "core:hw", "core:geolocation"];
+
+impl Metadata {
+    pub fn parse(name: &str, text: &[u8]) -> Result<Metadata, Problem> {
+        let wrong = |why: String| Problem::with(name, why);
+        let parsed: Value = serde_json::from_slice(text).map_err(|e| wrong(format!("it is not JSON: {e}")))?;
+        let global = parsed.get("global").and_then(Value::as_object).cloned();
+        let global = global.ok_or_else(|| wrong("it has no object `global`, as SigMF has".to_string()))?;
+        let mut metadata = Metadata { name: name.to_string(), global, captures: vec![] };
+        let offset = metadata.whole("core:offset")?.unwrap_or(0);
+        let captures = parsed.get("captures").and_then(Value::as_array);
+        let captures = captures.into_iter().flatten().map(|c| metadata.capture(c, offset));
+        metadata.captures = captures.collect::<Result<_, _>>()?;
+        if metadata.captures.windows(2).any(|two| two[0].start > two[1].start) {
+            return Err(metadata.wrong("its captures are not in the order of their samples"));
+        }
+        if metadata.captures.first().map_or(false, |first| first.start != 0) {
+            return Err(metadata.wrong("its first capture does not begin at its first sample"));
+        }
+        metadata.checked()
     }
-    match of("core:num_channels") {
-        None => {}
-        Some(count) if count.as_u64() == Some(1) => {}
-        Some(count) => return Err(wrong(format!("it has {count} channels, and only one is read"))),
+
+    /// What cannot be run.
+    fn checked(self) -> Result<Metadata, Problem> {
+        if self.global.get("core:metadata_only") == Some(&Value::Bool(true)) {
+            return Err(self.wrong("it is metadata only (core:metadata_only), and there are no samples to run"));
+        }
+        match self.whole("core:num_channels")? {
+            None | Some(1) => Ok(self),
+            Some(count) => Err(self.wrong(format!("it has {count} channels, and only one is read"))),
+        }
     }
-    let captures = parsed.get("captures").and_then(Value::as_array);
-    if captures.into_iter().flatten().any(|c| c.get("core:header_bytes").map_or(false, |b| b.as_u64() != Some(0))) {
-        return Err(wrong("its samples have header bytes between them, which are not read".to_string()));
+
+    fn wrong(&self, why: impl std::fmt::Display) -> Problem {
+        Problem::with(&self.name, why)
     }
-    match of("core:sample_rate").map(Value::as_f64) {
-        Some(Some(rate)) => Ok(rate),
-        Some(None) => Err(wrong("its rate (core:sample_rate) is not a number".to_string())),
-        None => Err(wrong("it does not say the rate (core:sample_rate)".to_string())),
+
+    /// A whole number of the global object.
+    fn whole(&self, name: &str) -> Result<Option<u64>, Problem> {
+        whole(&self.global, name).map_err(|why| self.wrong(why))
+    }
+
+    fn capture(&self, capture: &Value, offset: u64) -> Result<Capture, Problem> {
+        let wrong = |why: String| self.wrong(format!("a capture: {why}"));
+        let fields = capture.as_object().ok_or_else(|| wrong("it is not an object".to_string()))?;
+        let whole = |name| whole(fields, name).map_err(wrong);
+        let start = whole("core:sample_start")?.unwrap_or(offset);
+        Ok(Capture {
+            start: start.checked_sub(offset).ok_or_else(|| wrong("it begins before core:offset".to_string()))?,
+            header_bytes: whole("core:header_bytes")?.unwrap_or(0),
+            global_index: whole("core:global_index")?,
+            frequency: fields.get("core:frequency").and_then(Value::as_f64),
+            date: fields.get("core:datetime").and_then(Value::as_str).map(str::to_string),
+        })
+    }
+
+    /// The type of its samples. One that the command line names has to be the same.
+    pub fn datatype(&self, named: Option<Datatype>) -> Result<Datatype, Problem> {
+        let kind = match self.global.get("core:datatype") {
+            Some(Value::String(kind)) => kind,
+            _ => return Err(self.wrong("it does not say the sample type (core:datatype)")),
+        };
+        let real = kind.strip_prefix('r').map_or(false, |rest| Datatype::named(&format!("c{rest}")).is_some());
+        match Datatype::named(kind) {
+            Some(kind) if named.map_or(false, |named| named != kind) => {
+                Err(self.wrong(format!("its samples are {}, and --format says otherwise: leave it out", kind.name())))
+            }
+            Some(kind) => Ok(kind),
+            None if real => Err(self.wrong(format!("its samples are real ({kind}), and complex ones are needed"))),
+            None => Err(self.wrong(datatype::known(&format!("its sample type \"{kind}\" is not known")))),
+        }
+    }
+
+    /// Its rate. One on the command line has to be the same, and is needed where the metadata have none.
+    pub fn rate(&self, named: Option<f64>) -> Result<f64, Problem> {
+        match (self.global.get("core:sample_rate"), named) {
+            (Some(rate), named) => match rate.as_f64() {
+                None => Err(self.wrong("its rate (core:sample_rate) is not a number")),
+                Some(rate) if named.map_or(false, |named| named != rate) => {
+                    Err(self.wrong(format!("its rate is {rate}, and --rate says otherwise: leave it out")))
+                }
+                Some(rate) => Ok(rate),
+            },
+            (None, Some(named)) => Ok(named),
+            (None, None) => Err(self.wrong("it does not say the rate (core:sample_rate): --rate HZ says it")),
+        }
+    }
+
+    /// The name of the file of samples that these metadata are about, if it is another than that of the pair.
+    pub fn dataset(&self) -> Result<Option<&str>, Problem> {
+        match self.global.get("core:dataset").map(Value::as_str) {
+            None => Ok(None),
+            Some(Some(name)) if !name.is_empty() && !name.contains('/') && name != ".." && name != "." => {
+                Ok(Some(name))
+            }
+            Some(_) => Err(self.wrong("core:dataset is not the name of a file beside the metadata")),
+        }
+    }
+
+    /// The digest that the file of samples is to have.
+    pub fn sha512(&self) -> Option<&str> {
+        self.global.get("core:sha512").and_then(Value::as_str)
+    }
+
+    /// Have the samples a head of their own, so that the file is of another kind than bare samples?
+    pub fn has_header(&self) -> bool {
+        self.captures.first().map_or(false, |c| c.header_bytes > 0)
+    }
+
+    /// Where the samples stand in their file, of one capture or of all; and what is told of these.
+    pub fn layout(
+        &self,
+        file: Stretch,
+        size: usize,
+        capture: Option<usize>,
+    ) -> Result<(VecDeque<Stretch>, Told), Problem> {
+        let trailing = self.whole("core:trailing_bytes")?.unwrap_or(0);
+        let end = (file.from + file.bytes).checked_sub(trailing).filter(|end| *end >= file.from);
+        let end = end.ok_or_else(|| self.wrong("core:trailing_bytes are more bytes than the file has"))?;
+        let stretches = self.stretches(file.from, end, size as u64)?;
+        match capture {
+            None => {
+                self.one_receiver()?;
+                Ok((stretches.into(), Told { global: self.global.clone(), captures: self.captures.clone() }))
+            }
+            Some(n) => {
+                let count = self.captures.len();
+                let stretch = stretches.get(n).filter(|_| n < count);
+                let stretch = *stretch.ok_or_else(|| self.wrong(format!("--capture {n}: it has {count}, from 0")))?;
+                let alone = Capture { start: 0, ..self.captures[n].clone() };
+                Ok((VecDeque::from([stretch]), Told { global: self.global.clone(), captures: vec![alone] }))
+            }
+        }
+    }
+
+    /// The samples of each capture in the file, without what stands before them.
+    fn stretches(&self, from: u64, end: u64, size: u64) -> Result<Vec<Stretch>, Problem> {
+        let beyond = || self.wrong("a capture begins after the end of the samples");
+        if self.captures.is_empty() {
+            return Ok(vec![Stretch { from, bytes: end - from }]);
+        }
+        let (mut at, mut stretches) = (from, Vec::new());
+        for (i, capture) in self.captures.iter().enumerate() {
+            at = at.checked_add(capture.header_bytes).filter(|at| *at <= end).ok_or_else(beyond)?;
+            let samples = self.captures.get(i + 1).map(|next| next.start - capture.start);
+            let bytes = match samples {
+                None => end - at,
+                Some(samples) => samples.checked_mul(size).filter(|b| *b <= end - at).ok_or_else(beyond)?,
+            };
+            stretches.push(Stretch { from: at, bytes });
+            at += bytes;
+        }
+        Ok(stretches)
+    }
+
+    /// Captures that are run together are of one frequency, and no samples are missing between them.
+    fn one_receiver(&self) -> Result<(), Problem> {
+        let count = self.captures.len();
+        let which = format!("--capture N names one, from 0 to {}", count.saturating_sub(1));
+        if self.captures.windows(2).any(|two| two[0].frequency != two[1].frequency) {
+            return Err(self.wrong(format!("it has {count} captures at different frequencies: {which}")));
+        }
+        let gap = |two: &[Capture]| match (two[0].global_index, two[1].global_index) {
+            (Some(a), Some(b)) => b.checked_sub(a) != Some(two[1].start - two[0].start),
+            _ => false,
+        };
+        if self.captures.windows(2).any(gap) {
+            return Err(self.wrong(format!("samples are missing between its {count} captures: {which}")));
+        }
+        Ok(())
     }
 }
 
-/// The metadata of a recording of one channel at this rate.
-pub fn metadata(rate: f64) -> String {
-    let metadata = json!({
-        "global": { "core:datatype": TYPE, "core:sample_rate": rate, "core:version": "1.0.0" },
-        "captures": [{ "core:sample_start": 0 }],
-        "annotations": [],
-    });
-    format!("{metadata:#}\n")
+/// A whole number that an object has under this name.
+fn whole(fields: &Map<String, Value>, name: &str) -> Result<Option<u64>, String> {
+    match fields.get(name) {
+        None => Ok(None),
+        Some(value) => value.as_u64().map(Some).ok_or_else(|| format!("{name} is not a whole number from 0")),
+    }
+}
+
+impl Told {
+    /// When the receiver took this sample.
+    pub fn date(&self, sample: u64, rate: f64) -> Option<String> {
+        let capture = self.captures.iter().rev().find(|c| c.start <= sample)?;
+        later(capture.date.as_deref()?, sample - capture.start, rate)
+    }
+
+    /// The metadata of `count` samples from this one on, as a run left them, with its key-downs.
+    pub fn metadata(&self, first: u64, count: usize, rate: f64, sha512: &str, key_downs: &[KeyDown]) -> String {
+        let mut global = json!({
+            "core:datatype": Datatype::CF32_LE.name(),
+            "core:sample_rate": rate,
+            "core:sha512": sha512,
+            "core:version": "1.0.0",
+        });
+        for name in DESCRIPTION {
+            if let Some(value) = self.global.get(name) {
+                global[name] = value.clone();
+            }
+        }
+        let annotations: Vec<Value> = key_downs.iter().map(|key| annotation(key, count)).collect();
+        let captures = self.captures_from(first, count, rate);
+        format!("{:#}\n", json!({ "global": global, "captures": captures, "annotations": annotations }))
+    }
+
+    /// The captures of these samples, counted from the first of them.
+    fn captures_from(&self, first: u64, count: usize, rate: f64) -> Vec<Value> {
+        let mut captures = Vec::new();
+        for (i, capture) in self.captures.iter().enumerate() {
+            let from = capture.start.max(first);
+            let ends = self.captures.get(i + 1).map_or(false, |next| next.start <= first);
+            if ends || from >= first + count as u64 {
+                continue;
+            }
+            let mut fields = json!({ "core:sample_start": from - first });
+            if let Some(frequency) = capture.frequency {
+                fields["core:frequency"] = frequency.into();
+            }
+            if let Some(date) = capture.date.as_deref().and_then(|date| later(date, from - capture.start, rate)) {
+                fields["core:datetime"] = date.into();
+            }
+            captures.push(fields);
+        }
+        if captures.is_empty() {
+            captures.push(json!({ "core:sample_start": 0 }));
+        }
+        captures
+    }
+}
+
+/// The whole samples that a key-down covers.
+fn annotation(key: &KeyDown, count: usize) -> Value {
+    let (start, end) = (key.element.start.floor().max(0.0), key.element.end.ceil().min(count as f64));
+    json!({
+        "core:sample_start": start as u64,
+        "core:sample_count": (end - start).max(0.0) as u64,
+        "core:label": "key-down",
+        "core:comment": format!("of the strong sender, from {} to {} samples", key.element.start, key.element.end),
+        "core:generator": concat!("lenakkum ", env!("CARGO_PKG_VERSION")),
+    })
+}
+
+/// A date so many samples later. One that cannot be read is kept for its own sample only.
+fn later(date: &str, samples: u64, rate: f64) -> Option<String> {
+    if samples == 0 {
+        return Some(date.to_string());
+    }
+    let nanoseconds = Duration::nanoseconds((samples as f64 / rate * 1e9).round() as i64);
+    let then = DateTime::parse_from_rfc3339(date).ok()?.checked_add_signed(nanoseconds)?;
+    Some(then.to_rfc3339_opts(SecondsFormat::AutoSi, true))
 }

@@ -1,8 +1,11 @@
 //! Files that are written whole or not at all.
 
+use crate::outcome::Subject;
 use crate::problem::Problem;
 use crate::sigmf;
+use cancel::KeyDown;
 use num_complex::Complex32;
+use sha2::{Digest, Sha512};
 use std::fs::{self, File};
 use std::io::Write;
 use std::path::{Path, PathBuf};
@@ -33,19 +36,26 @@ impl Staged {
         Ok(staged)
     }
 
-    /// A recording: little-endian f32 pairs, with metadata beside them if the name is one of a SigMF pair.
-    pub fn recording(path: &Path, samples: &[Complex32], rate: f64) -> Result<Vec<Staged>, Problem> {
-        let bytes: Vec<u8> = samples.iter().flat_map(|x| [x.re, x.im]).flat_map(f32::to_le_bytes).collect();
+    /// What a run left: little-endian f32 pairs, with metadata beside them if the name is one of a SigMF pair.
+    pub fn recording(
+        path: &Path,
+        subject: &Subject,
+        samples: &[Complex32],
+        key_downs: &[KeyDown],
+    ) -> Result<Vec<Staged>, Problem> {
+        let bytes = bytes(samples);
         match sigmf::pair(path) {
             None => Ok(vec![Staged::bytes(path, &bytes)?]),
-            Some(pair) => Ok(vec![
-                Staged::bytes(&pair.data, &bytes)?,
-                Staged::bytes(&pair.meta, sigmf::metadata(rate).as_bytes())?,
-            ]),
+            Some(pair) => {
+                let sha512: String = Sha512::digest(&bytes).iter().map(|byte| format!("{byte:02x}")).collect();
+                let told = &subject.told;
+                let metadata = told.metadata(subject.first, samples.len(), subject.rate, &sha512, key_downs);
+                Ok(vec![Staged::bytes(&pair.data, &bytes)?, Staged::bytes(&pair.meta, metadata.as_bytes())?])
+            }
         }
     }
 
-    fn bytes(path: &Path, bytes: &[u8]) -> Result<Staged, Problem> {
+    pub fn bytes(path: &Path, bytes: &[u8]) -> Result<Staged, Problem> {
         Staged::new(path, |beside| {
             File::create(beside)
                 .and_then(|mut file| file.write_all(bytes).and_then(|()| file.sync_all()))
@@ -64,4 +74,29 @@ impl Drop for Staged {
     fn drop(&mut self) {
         let _ = fs::remove_file(&self.beside);
     }
+}
+
+/// Samples as little-endian f32 pairs.
+pub fn bytes(samples: &[Complex32]) -> Vec<u8> {
+    samples.iter().flat_map(|x| [x.re, x.im]).flat_map(f32::to_le_bytes).collect()
+}
+
+/// The files that a recording of this name is written to.
+pub fn files(path: &Path) -> Vec<PathBuf> {
+    sigmf::pair(path).map_or_else(|| vec![path.to_path_buf()], |pair| vec![pair.data, pair.meta])
+}
+
+/// Stops at a recording's name where a file is already, one that is run above all.
+pub fn nothing_lost(path: &Path, inputs: &[PathBuf]) -> Result<(), Problem> {
+    for file in files(path) {
+        let there = match fs::canonicalize(&file) {
+            Ok(there) if there.is_file() => there,
+            // What is no file is complained of where it is written.
+            _ => continue,
+        };
+        let is_input = |input: &PathBuf| files(input).iter().any(|f| fs::canonicalize(f).map_or(false, |f| f == there));
+        let what = if inputs.iter().any(is_input) { "it is the recording itself" } else { "it is there already" };
+        return Err(Problem::with(file.display(), format!("{what}: --force replaces it")));
+    }
+    Ok(())
 }

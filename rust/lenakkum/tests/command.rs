@@ -3,8 +3,7 @@
 mod common;
 
 use common::*;
-use serde_json::Value;
-use std::fs::{self, File};
+use std::fs;
 
 #[test]
 fn the_report_of_document_01() {
@@ -12,8 +11,7 @@ fn the_report_of_document_01() {
     fs::write(folder.join("one.cf32"), one()).unwrap();
     let said = lenakkum(&folder, "run one.cf32 --rate 3000");
     assert_eq!((said.status.code(), text(&said.stdout), text(&said.stderr)), (Some(0), ONE.into(), String::new()));
-    let input = File::open(folder.join("one.cf32")).unwrap();
-    let said = with_input(&folder, "run - --rate 3000 --hint 0", input.into());
+    let said = fed(&folder, "run - --rate 3000 --hint 0", one());
     assert_eq!((said.status.code(), text(&said.stdout)), (Some(0), ONE.into()));
 }
 
@@ -42,28 +40,6 @@ fn what_the_run_leaves() {
 }
 
 #[test]
-fn sigmf_and_json() {
-    let folder = folder("sigmf");
-    fs::write(folder.join("two.sigmf-data"), two()).unwrap();
-    fs::write(folder.join("two.sigmf-meta"), meta("cf32_le", "3000.0")).unwrap();
-    for file in ["two.sigmf-data", "two.sigmf-meta"] {
-        let said = lenakkum(&folder, &format!("run {file} --json --statement"));
-        let json: Value = serde_json::from_slice(&said.stdout).unwrap();
-        assert_eq!((&json["run"], &json["hypothesis"], &json["buffer"]), (&0.into(), &"two".into(), &"taken".into()));
-        assert_eq!(json["elements"].as_array().unwrap().len(), 21);
-        assert_eq!(json["statement"]["rate_hz"], 3_000.0);
-        assert_eq!(json["statement"]["library_sha256"].as_str().unwrap().len(), 64);
-        let offset = json["evidence"]["offset_hz"].as_f64().unwrap();
-        assert!((offset - 60.0).abs() < 2.0, "{offset}");
-    }
-    // What is written as a pair is read as one.
-    lenakkum(&folder, "run two.sigmf-meta --out left.sigmf-meta");
-    let said = lenakkum(&folder, "run left.sigmf-data --statement");
-    assert!(text(&said.stdout).starts_with("(run 0\n(size 2048 8 256)\n"), "{}", text(&said.stdout));
-    assert_eq!(names(&folder), ["left.sigmf-data", "left.sigmf-meta", "two.sigmf-data", "two.sigmf-meta"]);
-}
-
-#[test]
 fn version_and_statement() {
     let folder = folder("version");
     fs::write(folder.join("one.cf32"), one()).unwrap();
@@ -84,13 +60,10 @@ fn several_files() {
     let lines = text(&said.stdout);
     assert_eq!(lines.lines().count(), 2);
     assert!(lines.starts_with("one.cf32: one, kept") && lines.contains("\ntwo.cf32: two ("), "{lines}");
+    assert!(text(&said.stderr).starts_with("lenakkum: 1 of 3 were not run:
+"));
     assert!(text(&said.stderr).contains("lenakkum: wild.cf32: refused (3): a sample is infinite or not a number: "));
     assert_eq!(said.status.code(), Some(1));
-    let said = lenakkum(&folder, "run one.cf32 none.cf32 wild.cf32 two.cf32 --rate 3000 --json");
-    assert_eq!(said.status.code(), Some(2));
-    assert!(text(&said.stderr).contains("2 of 4 were not run"));
-    let runs: Vec<Value> = text(&said.stdout).lines().map(|l| serde_json::from_str(l).unwrap()).collect();
-    assert_eq!(runs.iter().map(|r| r["run"].as_u64().unwrap()).collect::<Vec<_>>(), [0, 3, 0]);
 }
 
 #[test]
@@ -114,13 +87,6 @@ fn wrong_input() {
     fs::write(folder.join("one.cf32"), one()).unwrap();
     fs::write(folder.join("empty.cf32"), "").unwrap();
     fs::write(folder.join("odd.cf32"), &one()[..13]).unwrap();
-    for (name, meta) in
-        [("short", meta("ci16_le", "3000")), ("rate", meta("cf32_le", "\"fast\"")), ("json", "{".into())]
-    {
-        fs::write(folder.join(format!("{name}.sigmf-data")), one()).unwrap();
-        fs::write(folder.join(format!("{name}.sigmf-meta")), meta).unwrap();
-    }
-    fs::write(folder.join("alone.sigmf-meta"), meta("cf32_le", "3000")).unwrap();
     fs::create_dir(folder.join("folder")).unwrap();
     let before = names(&folder);
     let cases = [
@@ -129,10 +95,6 @@ fn wrong_input() {
         ("run - --rate 3000", "standard input: it is empty"),
         ("run odd.cf32 --rate 3000", "odd.cf32: its 13 bytes"),
         ("run folder --rate 3000", "folder: Is a directory"),
-        ("run short.sigmf-data", "ci16_le"),
-        ("run rate.sigmf-data", "core:sample_rate"),
-        ("run json.sigmf-data", "not JSON"),
-        ("run alone.sigmf-meta", "alone.sigmf-data: No such file"),
         ("run one.cf32", "--rate HZ is needed"),
         ("run one.cf32 --rate fast", "'fast' for '--rate <HZ>': it is not a number"),
         ("run one.cf32 --rate nan", "'nan' for '--rate <HZ>': it is not a number"),
@@ -140,17 +102,14 @@ fn wrong_input() {
         ("run one.cf32 --rate 3000 --out folder", "folder: it is a folder"),
         ("run one.cf32 --rate 3000 --out /dev/null", "/dev/null: it is not a regular file"),
         ("run one.cf32 --rate 3000 --out none/left.cf32", "none/left.cf32: No such file"),
-        ("run one.cf32 one.cf32 --rate 3000 --out left.cf32", "--out: it is for one recording"),
+        ("run one.cf32 one.cf32 --rate 3000 --out left.cf32", "--out: there are several recordings"),
         ("run one.cf32 --rate 3000 --loud", "'--loud'"),
         ("run", "<FILE>"),
         ("walk", "'walk'"),
         ("", "`run` is known"),
     ];
     for (words, line) in cases {
-        let said = lenakkum(&folder, words);
-        assert_eq!((said.status.code(), text(&said.stdout)), (Some(2), String::new()), "{words}");
-        let complaint = text(&said.stderr);
-        assert!(complaint.lines().count() == 1 && complaint.contains(line), "{words}: {complaint}");
+        assert_wrong(&lenakkum(&folder, words), line, words);
     }
     assert_eq!(names(&folder), before);
 }
@@ -176,13 +135,10 @@ fn pictures() {
         ("run one.cf32 --rate 3000 --picture one.jpg", "one.jpg: a picture's name ends in .svg or .png"),
         ("run one.cf32 --rate 3000 --picture none/one.svg", "none/one.svg: "),
         ("run one.cf32 --rate 3000 --picture none/one.png --out kept.cf32", "none/one.png: "),
-        ("run one.cf32 two.cf32 --rate 3000 --picture one.svg", "--picture: it is for one recording"),
+        ("run one.cf32 two.cf32 --rate 3000 --picture one.svg", "--picture: there are several recordings"),
     ];
     for (words, line) in cases {
-        let said = lenakkum(&folder, words);
-        assert_eq!((said.status.code(), text(&said.stdout)), (Some(2), String::new()), "{words}");
-        let complaint = text(&said.stderr);
-        assert!(complaint.lines().count() == 1 && complaint.contains(line), "{words}: {complaint}");
+        assert_wrong(&lenakkum(&folder, words), line, words);
     }
     assert_eq!(lenakkum(&folder, "run one.cf32 --rate 100 --picture no.svg").status.code(), Some(1));
     assert_eq!(names(&folder), ["left.cf32", "one.cf32", "one.png", "two.cf32", "two.svg"]);

@@ -5,6 +5,7 @@ mod draw;
 mod lanes;
 mod trace;
 
+use crate::outcome;
 use crate::problem::Problem;
 use crate::reasons;
 use crate::writing::Staged;
@@ -15,7 +16,7 @@ use std::path::Path;
 
 /// What a picture is made of.
 struct Subject<'a> {
-    name: &'a str,
+    name: String,
     rate: f64,
     before: &'a [Complex32],
     after: &'a [Complex32],
@@ -73,8 +74,7 @@ pub fn checked(path: &Path) -> Result<(), Problem> {
 /// Draws the picture of a run beside its place.
 pub fn of_run(
     path: &Path,
-    name: &str,
-    rate: f64,
+    subject: &outcome::Subject,
     before: &[Complex32],
     after: &[Complex32],
     ran: &Ran<'_>,
@@ -86,13 +86,13 @@ pub fn of_run(
         fits: ran.fits().collect(),
         elements: ran.elements().map(|k| k.element).collect(),
     };
-    staged(path, &Subject { name, rate, before, after, figures, elements: ran.elements().collect(), estimate })
+    let (name, rate, elements) = (subject.title(), subject.rate, ran.elements().collect());
+    staged(path, &Subject { name, rate, before, after, figures, elements, estimate })
 }
 
 fn staged(path: &Path, subject: &Subject<'_>) -> Result<Staged, Problem> {
     let kind = kind(path)?;
-    let shown =
-        shown(subject, kind == Kind::Svg).map_err(|refusal| Problem::Refused(subject.name.to_string(), refusal))?;
+    let shown = shown(subject, kind == Kind::Svg).map_err(|refusal| Problem::refused(&subject.name, refusal))?;
     let size = (SIZE.0, SIZE.1 + draw::added(shown.reasons.len()));
     Staged::new(path, |beside| match kind {
         Kind::Svg => draw::drawn(&SVGBackend::new(beside, size).into_drawing_area(), &shown),

@@ -1,11 +1,13 @@
 //! What the tests of the command share: folders, recordings, and the command run as a person runs it.
 #![allow(dead_code)]
 
-use serde_json::Value;
+use assert_cmd::Command;
+use serde_json::{json, Value};
 use std::f64::consts::{PI, TAU};
 use std::fs;
 use std::path::{Path, PathBuf};
-use std::process::{Command, Output, Stdio};
+use std::process::Output;
+use std::time::Duration;
 
 /// An empty folder of this test.
 pub fn folder(name: &str) -> PathBuf {
@@ -15,13 +17,36 @@ pub fn folder(name: &str) -> PathBuf {
     folder
 }
 
-pub fn lenakkum(folder: &Path, words: &str) -> Output {
-    with_input(folder, words, Stdio::null())
+/// The command, with its words; one that does not end is stopped.
+pub fn command(folder: &Path, words: &str) -> Command {
+    let mut command = Command::cargo_bin("lenakkum").unwrap();
+    command.current_dir(folder).args(words.split_whitespace()).timeout(Duration::from_secs(300));
+    command
 }
 
-pub fn with_input(folder: &Path, words: &str, input: Stdio) -> Output {
-    let mut command = Command::new(env!("CARGO_BIN_EXE_lenakkum"));
-    command.current_dir(folder).args(words.split_whitespace()).stdin(input).output().unwrap()
+pub fn lenakkum(folder: &Path, words: &str) -> Output {
+    command(folder, words).output().unwrap()
+}
+
+/// With these bytes on standard input.
+pub fn fed(folder: &Path, words: &str, input: Vec<u8>) -> Output {
+    command(folder, words).write_stdin(input).output().unwrap()
+}
+
+/// A line of bash in which the command is known by its name. A pipe's status is that of the first part that failed.
+pub fn bash(folder: &Path, line: &str) -> Output {
+    let bin = Path::new(env!("CARGO_BIN_EXE_lenakkum")).parent().unwrap();
+    let path = format!("{}:{}", bin.display(), std::env::var("PATH").unwrap());
+    let mut command = Command::new("bash");
+    command.current_dir(folder).args(["-c", &format!("set -o pipefail; {line}")]).env("PATH", path);
+    command.timeout(Duration::from_secs(300)).output().unwrap()
+}
+
+/// It was wrong: status 2, one line on standard error that has these words, nothing on standard output.
+pub fn assert_wrong(said: &Output, words: &str, asked: &str) {
+    let complaint = text(&said.stderr);
+    assert_eq!((said.status.code(), text(&said.stdout)), (Some(2), String::new()), "{asked}: {complaint}");
+    assert!(complaint.lines().count() == 1 && complaint.contains(words), "{asked}: {complaint}");
 }
 
 pub fn file_name(path: &Path) -> String {
@@ -84,8 +109,13 @@ fn ramp(t: f64, rise: f64) -> f64 {
     }
 }
 
-pub fn meta(kind: &str, rate: &str) -> String {
-    format!(r#"{{"global": {{"core:datatype": "{kind}", "core:sample_rate": {rate}}}, "captures": []}}"#)
+/// Writes a SigMF pair: what its global object has beside the type and the rate, its captures, its samples.
+pub fn sigmf(folder: &Path, name: &str, global: Value, captures: Value, data: &[u8]) {
+    let mut all = json!({ "core:datatype": "cf32_le", "core:sample_rate": 3000 });
+    all.as_object_mut().unwrap().extend(global.as_object().unwrap().clone());
+    let meta = json!({ "global": all, "captures": captures, "annotations": [] });
+    fs::write(folder.join(format!("{name}.sigmf-meta")), meta.to_string()).unwrap();
+    fs::write(folder.join(format!("{name}.sigmf-data")), data).unwrap();
 }
 
 /// The repository's example recordings that are whole samples, and not too many for tankair.

@@ -1,0 +1,51 @@
+//! What is run, and what came of it.
+
+use crate::numbers;
+use crate::problem::Problem;
+use crate::sigmf::Told;
+use crate::statement::Statement;
+
+/// A recording, or a piece of one, as it is spoken of.
+pub struct Subject {
+    pub name: String,
+    pub rate: f64,
+    pub hint: f64,
+    /// The first sample that is run, counted from the recording's first.
+    pub first: u64,
+    /// How many are run.
+    pub samples: usize,
+    /// The piece's number, from 1.
+    pub piece: Option<usize>,
+    pub told: Told,
+    /// Is it to be explained why the sender was taken off, or the recording kept?
+    pub explain: bool,
+    /// Where one is asked for.
+    pub statement: Option<Statement>,
+}
+
+impl Subject {
+    /// A place among the samples that are run, in seconds from the recording's beginning.
+    pub fn seconds(&self, sample: f64) -> f64 {
+        (self.first as f64 + sample) / self.rate
+    }
+
+    /// Its name, and where it stands if it is a piece.
+    pub fn title(&self) -> String {
+        let place = |sample: usize| numbers::plain(self.seconds(sample as f64));
+        match self.piece {
+            None => self.name.clone(),
+            Some(_) => format!("{} [{} s to {} s]", self.name, place(0), place(self.samples)),
+        }
+    }
+}
+
+/// What came of a recording or a piece.
+#[derive(Default)]
+pub struct Outcome {
+    /// What is said of it.
+    pub said: String,
+    /// What is left of it, for standard output.
+    pub left: Option<Vec<u8>>,
+    /// What went wrong.
+    pub problem: Option<Problem>,
+}
