@@ -78,6 +78,9 @@ pub struct Run {
     #[cfg(feature = "pictures")]
     #[arg(long, value_name = "OUT.svg|png")]
     pub picture: Option<PathBuf>,
+    /// Write a page on all recordings: what was found in words, why, pictures, digests; to be read or printed
+    #[arg(long, value_name = "FILE.html")]
+    pub page: Option<PathBuf>,
     /// Add to each report the recording's digest and date, rate and hint, the command's version, the library's commit
     #[arg(long)]
     pub statement: bool,
@@ -111,11 +114,16 @@ impl Run {
 
     /// Does it write files?
     pub fn writes(&self) -> bool {
-        self.out_file().is_some() || self.picture_file().is_some()
+        self.out_file().is_some() || self.picture_file().is_some() || self.page.is_some()
     }
 
     pub fn reading(&self) -> Reading {
-        Reading { rate: self.rate, datatype: self.format, capture: self.capture, digest: self.statement }
+        Reading {
+            rate: self.rate,
+            datatype: self.format,
+            capture: self.capture,
+            digest: self.statement || self.page.is_some(),
+        }
     }
 
     pub fn choice(&self) -> Choice {
@@ -136,6 +144,9 @@ impl Run {
         if let Some(path) = &self.picture {
             crate::picture::checked(path)?;
         }
+        if let Some(path) = &self.page {
+            crate::page::checked(path)?;
+        }
         self.once()?;
         self.nothing_lost()?;
         Ok(self)
@@ -143,7 +154,7 @@ impl Run {
 
     /// No file is to be written twice.
     fn once(&self) -> Result<(), Problem> {
-        let mut all = BTreeSet::new();
+        let mut all: BTreeSet<PathBuf> = self.page.iter().cloned().collect();
         for (i, path) in self.files.iter().enumerate() {
             let of = names::Of { path, number: i + 1, piece: 1 };
             let out = self.out_file().map_or_else(Vec::new, |out| writing::files(&names::named(out, of)));

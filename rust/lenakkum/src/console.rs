@@ -1,6 +1,7 @@
 //! Standard output and standard error. A reader that goes away is no error.
 
 use crate::outcome::Outcome;
+use crate::page::Section;
 use crate::problem::{self, Problem};
 use indicatif::{ProgressBar, ProgressStyle};
 use std::io::{self, ErrorKind, Write};
@@ -15,6 +16,8 @@ pub struct Console {
     gone: bool,
     outcomes: usize,
     problems: Vec<Problem>,
+    /// What a page has of each.
+    pub sections: Vec<Section>,
 }
 
 impl Console {
@@ -22,7 +25,7 @@ impl Console {
     pub fn new(files: usize, samples: bool) -> Console {
         let bar = if files > 1 { ProgressBar::new(files as u64) } else { ProgressBar::hidden() };
         bar.set_style(ProgressStyle::with_template("{bar:40} {pos}/{len} {msg}").expect("a template that is right"));
-        Console { bar, samples, gone: false, outcomes: 0, problems: vec![] }
+        Console { bar, samples, gone: false, outcomes: 0, problems: vec![], sections: vec![] }
     }
 
     /// Says something of no recording in particular.
@@ -43,6 +46,7 @@ impl Console {
             self.write(left)?;
         }
         self.problems.extend(outcome.problem);
+        self.sections.extend(outcome.section);
         Ok(!self.gone)
     }
 

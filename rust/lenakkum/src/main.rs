@@ -11,6 +11,7 @@ mod datatype;
 mod names;
 mod numbers;
 mod outcome;
+mod page;
 mod parts;
 #[cfg(feature = "pictures")]
 mod picture;

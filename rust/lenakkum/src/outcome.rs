@@ -1,6 +1,7 @@
 //! What is run, and what came of it.
 
 use crate::numbers;
+use crate::page::Section;
 use crate::problem::Problem;
 use crate::sigmf::Told;
 use crate::statement::Statement;
@@ -19,14 +20,20 @@ pub struct Subject {
     pub told: Told,
     /// Is it to be explained why the sender was taken off, or the recording kept?
     pub explain: bool,
-    /// Where one is asked for.
-    pub statement: Option<Statement>,
+    pub statement: Statement,
+    /// Is the statement asked for in the report?
+    pub stated: bool,
 }
 
 impl Subject {
     /// A place among the samples that are run, in seconds from the recording's beginning.
     pub fn seconds(&self, sample: f64) -> f64 {
         (self.first as f64 + sample) / self.rate
+    }
+
+    /// The statement, where one is asked for.
+    pub fn stated(&self) -> Option<&Statement> {
+        Some(&self.statement).filter(|_| self.stated)
     }
 
     /// Its name, and where it stands if it is a piece.
@@ -48,4 +55,6 @@ pub struct Outcome {
     pub left: Option<Vec<u8>>,
     /// What went wrong.
     pub problem: Option<Problem>,
+    /// What a page has of it, where one is asked for.
+    pub section: Option<Section>,
 }

@@ -1,6 +1,7 @@
 //! What is said of a run: document 01's report, or one line.
 
 use crate::outcome::Subject;
+use crate::statement::Statement;
 use crate::{numbers, reasons};
 use cancel::{Hypothesis, Ran, Refusal};
 use std::fmt::Write;
@@ -44,7 +45,7 @@ fn explained(subject: &Subject, ran: &Ran<'_>) -> String {
 }
 
 fn stated(subject: &Subject) -> String {
-    subject.statement.as_ref().map_or_else(String::new, |statement| statement.text())
+    subject.stated().map_or_else(String::new, Statement::text)
 }
 
 /// The run in one line.
@@ -60,7 +61,7 @@ pub fn line(subject: &Subject, ran: &Ran<'_>) -> String {
     if !why.is_empty() {
         let _ = write!(said, "; kept because {}", why.join("; "));
     }
-    if let Some(statement) = &subject.statement {
+    if let Some(statement) = subject.stated() {
         said += &statement.on_a_line();
     }
     said + "\n" + &explained(subject, ran)

@@ -4,6 +4,7 @@ use crate::args::Run;
 use crate::console::Console;
 use crate::names;
 use crate::outcome::{Outcome, Subject};
+use crate::page::{self, Section};
 use crate::parts::{Part, Parts};
 #[cfg(feature = "pictures")]
 use crate::picture;
@@ -32,6 +33,9 @@ pub fn run(args: &Run) -> Result<ExitCode, Problem> {
         several(args, &mut console)?;
     } else {
         one(args, &mut console)?;
+    }
+    if let Some(path) = &args.page {
+        page::written(path, &console.sections)?;
     }
     Ok(console.end())
 }
@@ -131,10 +135,7 @@ fn file(args: &Run, number: usize, path: &Path, workspace: &mut Workspace, each:
 }
 
 fn subject(args: &Run, source: &Source, part: &Part) -> Subject {
-    let statement = args.statement.then(|| {
-        let date = source.told.date(part.first, source.rate);
-        Statement::new(&source.name, source.sha256.clone(), date, source.rate, args.hint)
-    });
+    let date = source.told.date(part.first, source.rate);
     Subject {
         name: source.name.clone(),
         rate: source.rate,
@@ -144,7 +145,8 @@ fn subject(args: &Run, source: &Source, part: &Part) -> Subject {
         piece: part.piece,
         told: source.told.clone(),
         explain: args.explain,
-        statement,
+        statement: Statement::new(&source.name, source.sha256.clone(), date, source.rate, args.hint),
+        stated: args.statement,
     }
 }
 
@@ -155,7 +157,8 @@ fn not_read(args: &Run, path: &Path, problem: Problem) -> Outcome {
         _ if args.csv => tables::csv_of_problem(&name, None, &problem),
         _ => String::new(),
     };
-    Outcome { said, left: None, problem: Some(problem) }
+    let section = args.page.as_ref().map(|_| Section::of_problem(&name, &problem));
+    Outcome { said, left: None, problem: Some(problem), section }
 }
 
 /// Runs samples, writes what is to be written, and gives what is said of them. A refusal writes no file.
@@ -166,17 +169,24 @@ fn ran(
     mut samples: Vec<Complex32>,
     of: names::Of<'_>,
 ) -> Outcome {
-    let before = if args.picture_file().is_some() { samples.clone() } else { Vec::new() };
+    let drawn = args.picture_file().is_some() || args.page.is_some();
+    let before = if drawn { samples.clone() } else { Vec::new() };
     workspace.make_room(samples.len(), subject.rate);
     let ran = workspace.run(&mut samples, subject.rate, args.hint).map_err(|r| Problem::refused(&subject.title(), r));
-    let written = ran.and_then(|ran| written(args, &subject, &before, &samples, &ran, of).map(|()| ran));
+    let written = ran.and_then(|ran| {
+        written(args, &subject, &before, &samples, &ran, of)?;
+        Ok((section(args, &subject, &before, &samples, &ran)?, ran))
+    });
     let left = |samples: &[Complex32]| args.to_standard_output().then(|| writing::bytes(samples));
     match written {
-        Ok(ran) => Outcome { said: said(args, &subject, &ran), left: left(&samples), problem: None },
+        Ok((section, ran)) => {
+            Outcome { said: said(args, &subject, &ran), left: left(&samples), problem: None, section }
+        }
         Err(problem) => {
             // A refused piece goes on as it came, so that those after it stand where they stood.
             let left = subject.piece.and_then(|_| left(&samples));
-            Outcome { said: said_of(args, &subject, &problem), left, problem: Some(problem) }
+            let section = args.page.as_ref().map(|_| Section::of_problem(&subject.title(), &problem));
+            Outcome { said: said_of(args, &subject, &problem), left, problem: Some(problem), section }
         }
     }
 }
@@ -206,6 +216,24 @@ fn written(
     #[cfg(not(feature = "pictures"))]
     let _ = before;
     staged.into_iter().try_for_each(Staged::put)
+}
+
+/// What a page has of a run, where one is asked for.
+fn section(
+    args: &Run,
+    subject: &Subject,
+    before: &[Complex32],
+    after: &[Complex32],
+    ran: &Ran<'_>,
+) -> Result<Option<Section>, Problem> {
+    if args.page.is_none() {
+        return Ok(None);
+    }
+    #[cfg(feature = "pictures")]
+    let picture = Some(picture::svg_of_run(subject, before, after, ran)?);
+    #[cfg(not(feature = "pictures"))]
+    let (picture, _): (Option<String>, _) = (None, (before, after));
+    Ok(Some(Section::of_run(subject, &ran.figures, picture.as_deref())))
 }
 
 /// What is said of a run.

@@ -147,7 +147,7 @@ struct Fit {
 pub fn json(subject: &Subject, ran: &Ran<'_>) -> String {
     let figures = Some(figures(subject, ran));
     let place = Some(Place::of(subject, Some(0)));
-    let statement = subject.statement.as_ref();
+    let statement = subject.stated();
     one_line(&Json { file: &subject.name, run: Some(0), problem: None, refusal: None, place, figures, statement })
 }
 
@@ -162,7 +162,7 @@ pub fn json_of_problem(name: &str, subject: Option<&Subject>, problem: &Problem)
         refusal: refused.map(|refusal| refusal.to_string()),
         place: subject.map(|subject| Place::of(subject, run)),
         figures: None,
-        statement: subject.and_then(|subject| subject.statement.as_ref()),
+        statement: subject.and_then(Subject::stated),
     })
 }
 
@@ -348,7 +348,7 @@ pub fn csv_of_problem(name: &str, subject: Option<&Subject>, problem: &Problem) 
 /// What a row says of a recording before it is run.
 fn of_subject(subject: &Subject, run: Option<u64>) -> Row<'_> {
     let place = Place::of(subject, run);
-    let statement = subject.statement.as_ref();
+    let statement = subject.stated();
     Row {
         file: &subject.name,
         run,

@@ -79,6 +79,37 @@ pub fn of_run(
     after: &[Complex32],
     ran: &Ran<'_>,
 ) -> Result<Staged, Problem> {
+    let kind = kind(path)?;
+    let subject = drawn_of(subject, before, after, ran);
+    let (shown, size) = measured(&subject, kind == Kind::Svg)?;
+    Staged::new(path, |beside| match kind {
+        Kind::Svg => draw::drawn(&SVGBackend::new(beside, size).into_drawing_area(), &shown),
+        Kind::Png => draw::drawn(&BitMapBackend::new(beside, size).into_drawing_area(), &shown),
+    })
+}
+
+/// The picture of a run as a text, to stand in a page.
+pub fn svg_of_run(
+    subject: &outcome::Subject,
+    before: &[Complex32],
+    after: &[Complex32],
+    ran: &Ran<'_>,
+) -> Result<String, Problem> {
+    let subject = drawn_of(subject, before, after, ran);
+    let (shown, size) = measured(&subject, true)?;
+    let mut text = String::new();
+    draw::drawn(&SVGBackend::with_string(&mut text, size).into_drawing_area(), &shown)
+        .map_err(|why| Problem::with(&subject.name, why))?;
+    // A page has its own first line.
+    Ok(text.find("<svg").map_or_else(String::new, |at| text.split_off(at)))
+}
+
+fn drawn_of<'a>(
+    subject: &outcome::Subject,
+    before: &'a [Complex32],
+    after: &'a [Complex32],
+    ran: &Ran<'_>,
+) -> Subject<'a> {
     let figures = ran.figures;
     let estimate = StrongEstimate {
         carrier_hz: figures.carrier_hz,
@@ -86,18 +117,15 @@ pub fn of_run(
         fits: ran.fits().collect(),
         elements: ran.elements().map(|k| k.element).collect(),
     };
-    let (name, rate, elements) = (subject.title(), subject.rate, ran.elements().collect());
-    staged(path, &Subject { name, rate, before, after, figures, elements, estimate })
+    let elements = ran.elements().collect();
+    Subject { name: subject.title(), rate: subject.rate, before, after, figures, elements, estimate }
 }
 
-fn staged(path: &Path, subject: &Subject<'_>) -> Result<Staged, Problem> {
-    let kind = kind(path)?;
-    let shown = shown(subject, kind == Kind::Svg).map_err(|refusal| Problem::refused(&subject.name, refusal))?;
+/// What is shown, and how large in pixels.
+fn measured<'a>(subject: &'a Subject<'a>, vectors: bool) -> Result<(Shown<'a>, (u32, u32)), Problem> {
+    let shown = shown(subject, vectors).map_err(|refusal| Problem::refused(&subject.name, refusal))?;
     let size = (SIZE.0, SIZE.1 + draw::added(shown.reasons.len()));
-    Staged::new(path, |beside| match kind {
-        Kind::Svg => draw::drawn(&SVGBackend::new(beside, size).into_drawing_area(), &shown),
-        Kind::Png => draw::drawn(&BitMapBackend::new(beside, size).into_drawing_area(), &shown),
-    })
+    Ok((shown, size))
 }
 
 fn shown<'a>(subject: &'a Subject<'a>, vectors: bool) -> Result<Shown<'a>, Refusal> {
