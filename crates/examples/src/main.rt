@@ -1,8 +1,8 @@
-// Holds the recordings of examples/ to the reports that stand beside them. Arguments come in twos: a recording's file,
-// and that of its report.
+// Holds the recordings of examples/ to the reports that stand beside them, each recording read at once and in pieces.
+// Arguments come in twos: a recording's file, and that of its report.
 use format::INPUT;
 use libc::STDOUT_FILENO;
-ghost use Prim.Native.Nat.{_<_};
+ghost use Prim.Native.Nat.{_+_, _^_, _<_};
 ghost use Rattle.io.specs.Counts.{Counts};
 
 fn say(text: &[u8]) {
@@ -21,9 +21,9 @@ fn open(k: usize) -> i32 {
 }
 
 // The recording that argument k names, read as the program `tankair` reads its input.
-fn read_input(k: usize, into: &mut [u8; INPUT]) -> usize {
+fn read_input(k: usize, into: &mut [u8; INPUT], piece: usize) -> usize {
     let fd = open(k);
-    let n = format::read_recording(fd, into);
+    let n = format::read_recording(fd, into, piece);
     libc::close(fd);
     n
 }
@@ -44,17 +44,15 @@ fn name(k: usize) {
     say(&path[..length]);
 }
 
-fn compare(k: usize)
-    requires { ⌜ k < 128 ⌝ }
-{
+// The recording that argument k names, read in such pieces, against the stored report.
+fn compare(k: usize, piece: usize, pieces: &[u8], stored: &[u8]) {
     let mut bytes = [0u8; INPUT];
-    let n = read_input(k, &mut bytes);
+    let n = read_input(k, &mut bytes, piece);
     let mut out = [0u8; report::ROOM];
     let length = report::report_read(&bytes, n, &mut out);
-    let mut stored = [0u8; report::ROOM];
-    let m = read_stored(k + 1, &mut stored);
     name(k);
-    if check::same(&out[..length], &stored[..m]) {
+    say(pieces);
+    if check::same(&out[..length], stored) {
         say(b": its report is as stored\n");
     } else {
         say(b": its report is NOT as stored\n");
@@ -62,13 +60,21 @@ fn compare(k: usize)
     }
 }
 
-// At most 64 recordings.
+// The recording that argument k names, and its report behind it.
+fn compare_pieces(k: usize)
+    requires { ⌜ k + 1 < 2 ^ 64 ⌝ }
+{
+    let mut stored = [0u8; report::ROOM];
+    let m = read_stored(k + 1, &mut stored);
+    compare(k, INPUT, b", at once", &stored[..m]);
+    compare(k, 1, b", byte by byte", &stored[..m]);
+    compare(k, 1000, b", by 1,000 bytes", &stored[..m]);
+}
+
+// The program's own name comes before the arguments. A last one that has no report is held to none, and missed.
 fn main() {
-    let count = os::arg_count();
-    for i in 0..64 {
-        let k = 2 * i + 1;
-        if k + 1 < count {
-            compare(k);
-        }
+    let pairs = os::arg_count() / 2;
+    for i in 0..pairs {
+        compare_pieces(2 * i + 1);
     }
 }
