@@ -31,6 +31,9 @@ pub moved-most : (asked : ℕ) (z : ℤ) → T (nonNeg z) → Moved asked z → 
 moved-most asked (pos k) h m = m
 moved-most asked (negsuc k) h m = absurd h
 
+pub ended-is : (room there k : ℕ) → k ≡ 0 → Ended ≡ cameOf room there k
+ended-is room there k none = rw none
+
 pub more-is : (room there k : ℕ) → (k ≡ 0 → ⊥) → there + k < room → More (there + k) ≡ cameOf room there k
 more-is room there zero some h = absurd (some refl)
 more-is room there (suc k) some h = rw (lt-ltb (there + suc k) room h)

@@ -3,8 +3,8 @@
 -- Patterns    an f32's bit pattern by its two fields: `is-nan`, `is-number`, `is-infinity`
 -- Laws        the loop that stores the samples: ruleset `laws`; a recording that is accepted is short: `parts-few`; a
 --             full array holds more than one may have: `too-many`; as many bytes as there are: `counts`
--- Answers     what one read means, by its answer: `failed-is`, `came-is` and with them `not-negative`, `moved-most`,
---             `more-is`, `full-is`; where the reading goes on: `goes-on`; `count-most`
+-- Answers     what one read means, by its answer: `failed-is`, `came-is`, and by how many came: `ended-is`, `more-is`,
+--             `full-is`; where the reading goes on: `goes-on`; `count-most`
 -- Appending   text put into a buffer, piece by piece: `appended-none`, `appended-more`; the loop that copies
 -- Decimals    base ten: reading back gives the number: `decimal-back`; how many digits there are: `decimal-few`,
 --             `decimal-most`

@@ -10,7 +10,7 @@ use mir.Syntax.{w64}
 use mir.Val.{toZ, ofZ}
 use mir.Facts.{toZ-ofZ}
 use Rattle.format.specs.Input.{cameOf, readingOf}
-use Rattle.format.proofs.Answers.{failed-is, not-negative, came-is, moved-most, more-is, full-is}
+use Rattle.format.proofs.Answers.{failed-is, not-negative, came-is, moved-most, ended-is, more-is, full-is}
 use Rattle.format.proofs.input.meaning.Statement.{statement}
 use Rattle.format.proofs.input.meaning.Tie as tie
 
@@ -42,7 +42,7 @@ cast-came c = (rw (back (c .before)) (counted c), record { fits = omega (arith, 
 
 returns-2 : tie.Need-returns-2
 unfolding came
-returns-2 c = rw (c .if2 .taken) at (sym (by-came (c .before)))
+returns-2 c = ended-is _ _ _ (c .if2 .taken) ∙ sym (by-came (c .before))
 
 add-n : tie.Need-add-n
 unfolding came
