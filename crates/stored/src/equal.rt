@@ -1,23 +1,35 @@
 // Comparisons: bit for bit, where all NaNs are one and both zeros are one.
 use crate::units::double;
 use crate::units::shorter;
-ghost use Prim.Native.Nat.{_+_, _*_, _≤_, _<_};
+ghost use mathlib.Core.Path.{_≡_};
+ghost use mathlib.Core.Bool.{not, cond};
+ghost use Prim.Native.Nat.{_+_, _*_, _<_};
 ghost use lib.ListN.{length};
+ghost use Rattle.stored.specs.Same.{sameNumber, sameFirsts, sameFigures, sameSample, changedIn, lentFrom};
 
 // What lists and work slices hold before a call.
 pub const LENT: f64 = -7.25;
 
 // Does a row hold what it held before the call, from one place on?
-pub fn as_lent(row: &[f64], from: usize) -> bool {
-    for i in from..row.len() {
-        if row[i] != LENT {
+pub fn as_lent(row: &[f64], from: usize) -> bool
+    ensures { λ r. ⌜ r ≡ lentFrom (now (row .entry)) from ⌝ }
+{
+    let n = if from <= row.len() {
+        row.len() - from
+    } else {
+        0
+    };
+    for k in 0..n {
+        if row[from + k] != LENT {
             return false;
         }
     }
     true
 }
 
-fn same(a: f64, b: f64) -> bool {
+fn same(a: f64, b: f64) -> bool
+    ensures { λ r. ⌜ r ≡ sameNumber a b ⌝ }
+{
     if a == b {
         return true;
     }
@@ -27,18 +39,22 @@ fn same(a: f64, b: f64) -> bool {
     b != b
 }
 
-fn same_single(a: f32, b: f32) -> bool {
-    if a == b {
+fn same_single(x: f32, y: f32) -> bool
+    ensures { λ r. ⌜ r ≡ sameNumber x y ⌝ }
+{
+    if x == y {
         return true;
     }
-    if a == a {
+    if x == x {
         return false;
     }
-    b != b
+    y != y
 }
 
 // Are the first n numbers of both rows the same?
-pub fn same_list(a: &[f64], b: &[f64], n: usize) -> bool {
+pub fn same_list(a: &[f64], b: &[f64], n: usize) -> bool
+    ensures { λ r. ⌜ r ≡ sameFirsts (now (a .entry)) (now (b .entry)) n ⌝ }
+{
     if a.len() < n {
         return false;
     }
@@ -54,7 +70,9 @@ pub fn same_list(a: &[f64], b: &[f64], n: usize) -> bool {
 }
 
 // Are the floats of a row those that another begins with?
-pub fn same_floats(a: &[f32], b: &[f32]) -> bool {
+pub fn same_floats(a: &[f32], b: &[f32]) -> bool
+    ensures { λ r. ⌜ r ≡ sameFirsts (now (a .entry)) (now (b .entry)) (length (now (a .entry))) ⌝ }
+{
     if b.len() < a.len() {
         return false;
     }
@@ -67,8 +85,10 @@ pub fn same_floats(a: &[f32], b: &[f32]) -> bool {
 }
 
 // Are figures those that are stored?
-pub fn same_figures(figures: &[f64], stored: &[u8]) -> bool {
-    if figures.len() > 28 {
+pub fn same_figures(figures: &[f64], stored: &[u8]) -> bool
+    ensures { λ r. ⌜ r ≡ sameFigures (now (figures .entry)) (now (stored .entry)) ⌝ }
+{
+    if stored.len() != 8 * figures.len() {
         return false;
     }
     for i in 0..figures.len() {
@@ -82,7 +102,7 @@ pub fn same_figures(figures: &[f64], stored: &[u8]) -> bool {
 // 1 where two rows differ in a part of sample k, else 0.
 fn differing(a: &[f32], b: &[f32], k: usize) -> u64
     requires { ⌜ (2 * k + 1 < length (now a)) × (2 * k + 1 < length (now b)) ⌝ }
-    ensures { λ r. ⌜ r ≤ 1 ⌝ }
+    ensures { λ r. ⌜ r ≡ cond (not (sameSample (now (a .entry)) (now (b .entry)) k)) 1 0 ⌝ }
 {
     if !same_single(a[2 * k], b[2 * k]) {
         return 1;
@@ -94,7 +114,9 @@ fn differing(a: &[f32], b: &[f32], k: usize) -> u64
 }
 
 // In how many samples do two rows differ?
-pub fn changed(a: &[f32], b: &[f32]) -> u64 {
+pub fn changed(a: &[f32], b: &[f32]) -> u64
+    ensures { λ r. ⌜ r ≡ changedIn (now (a .entry)) (now (b .entry)) ⌝ }
+{
     let n = shorter(a.len() / 2, b.len() / 2);
     let mut sum = 0;
     for k in 0..n {

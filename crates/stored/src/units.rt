@@ -1,19 +1,28 @@
 // A record's numbers: 32-bit units, the least byte first, and numbers of two units, the lower one first. A unit that
 // the record does not have is 0, so that no file is too short to be read.
-ghost use Prim.Native.Nat.{_≤_};
+ghost use mathlib.Core.Path.{_≡_};
+ghost use Prim.Native.Nat.{_+_, _*_, _/_, _^_, _≤_, _<_, min};
+ghost use lib.ListN.{length};
+ghost use lib.Ieee.{binary64, ofBits};
+ghost use Rattle.format.specs.Bytes.{patternAt};
+ghost use Rattle.stored.specs.Units.{unitAt, longAt, doubleAt};
 
 // The smaller of two numbers.
 pub fn shorter(a: usize, b: usize) -> usize
-    ensures { λ r. ⌜ (r ≤ a) × (r ≤ b) ⌝ }
+    ensures { λ r. ⌜ (r ≤ a) × (r ≤ b) × (r ≡ min a b) ⌝ }
 {
     if a <= b { a } else { b }
 }
 
-fn joined_bytes(a: u8, b: u8, c: u8, d: u8) -> u32 {
+fn joined_bytes(a: u8, b: u8, c: u8, d: u8) -> u32
+    ensures { λ r. ⌜ r ≡ a + 2 ^ 8 * b + 2 ^ 16 * c + 2 ^ 24 * d ⌝ }
+{
     a as u32 + 0x100 * (b as u32) + 0x1_0000 * (c as u32) + 0x100_0000 * (d as u32)
 }
 
-fn joined_units(low: u32, high: u32) -> u64 {
+fn joined_units(low: u32, high: u32) -> u64
+    ensures { λ r. ⌜ r ≡ low + 2 ^ 32 * high ⌝ }
+{
     low as u64 + 0x1_0000_0000 * (high as u64)
 }
 
@@ -26,26 +35,40 @@ pub fn half(bytes: &[u8], i: usize) -> u32 {
     }
 }
 
-pub fn unit(bytes: &[u8], i: usize) -> u32 {
+// Four bytes that are there.
+fn whole_unit(bytes: &[u8], i: usize) -> u32
+    requires { ⌜ i < length (now bytes) / 4 ⌝ }
+    ensures { λ r. ⌜ r ≡ patternAt (now (bytes .entry)) i ⌝ }
+{
+    joined_bytes(
+        bytes[4 * i],
+        bytes[4 * i + 1],
+        bytes[4 * i + 2],
+        bytes[4 * i + 3],
+    )
+}
+
+pub fn unit(bytes: &[u8], i: usize) -> u32
+    ensures { λ r. ⌜ r ≡ unitAt (now (bytes .entry)) i ⌝ }
+{
     if i < bytes.len() / 4 {
-        joined_bytes(
-            bytes[4 * i],
-            bytes[4 * i + 1],
-            bytes[4 * i + 2],
-            bytes[4 * i + 3],
-        )
+        whole_unit(bytes, i)
     } else {
         0
     }
 }
 
 // A unit that is a count or a length.
-pub fn count(bytes: &[u8], i: usize) -> usize {
+pub fn count(bytes: &[u8], i: usize) -> usize
+    ensures { λ r. ⌜ r ≡ unitAt (now (bytes .entry)) i ⌝ }
+{
     unit(bytes, i) as usize
 }
 
 // The number of units i and i + 1.
-pub fn long(bytes: &[u8], i: usize) -> u64 {
+pub fn long(bytes: &[u8], i: usize) -> u64
+    ensures { λ r. ⌜ r ≡ longAt (now (bytes .entry)) i ⌝ }
+{
     if i < bytes.len() / 4 {
         joined_units(unit(bytes, i), unit(bytes, i + 1))
     } else {
@@ -54,7 +77,9 @@ pub fn long(bytes: &[u8], i: usize) -> u64 {
 }
 
 // The f64 of any bit pattern. `f64::from_bits` is for numbers and infinities; every other pattern is a NaN.
-fn of_pattern(bits: u64) -> f64 {
+fn of_pattern(bits: u64) -> f64
+    ensures { λ r. ⌜ r ≡ ofBits binary64 bits ⌝ }
+{
     let exponent = bits % 0x8000_0000_0000_0000 / 0x10_0000_0000_0000;
     let digits = bits % 0x10_0000_0000_0000;
     if exponent == 2047 {
@@ -66,7 +91,9 @@ fn of_pattern(bits: u64) -> f64 {
 }
 
 // The f64 of units i and i + 1.
-pub fn double(bytes: &[u8], i: usize) -> f64 {
+pub fn double(bytes: &[u8], i: usize) -> f64
+    ensures { λ r. ⌜ r ≡ doubleAt (now (bytes .entry)) i ⌝ }
+{
     of_pattern(long(bytes, i))
 }
 

@@ -1,15 +1,18 @@
--- `stored::equal::same_floats` is safe and ends. Assumes nothing.
+-- The invariant: the first i floats are the same.
 use Prim.Native.Nat.{_≤_, _-_}
+use mathlib.Core.Path.{_≡_}
+use mathlib.Core.Bool.{true}
 use lib.ListN.{length}
-use borrow.Author.Needs.{needs}
+use Rattle.stored.specs.Same.{sameTo, row}
+use Rattle.stored.proofs.Laws.{laws}
 use Rattle.stored.proofs.equal.same_floats.Statement.{statement}
 use Rattle.stored.proofs.equal.same_floats.Tie as tie
 
 abbrev Inv-loop : tie.InvT-loop
-Inv-loop a b i₀ i-end i = (i ≤ i-end) × (i-end ≤ length a) × (i-end ≤ length b)
+Inv-loop a b i₀ n i = (n ≡ length a) × (i ≤ n) × (n ≤ length b) × (sameTo (row a) (row b) i ≡ true)
 
 abbrev μ-loop : tie.MeasureT-loop
-μ-loop a b i₀ i-end i = i-end - i
+μ-loop a b i₀ n i = n - i
 
 pub same-floats-spec : {M : Type 1} → statement M
 same-floats-spec =
@@ -17,15 +20,15 @@ same-floats-spec =
     (tie.spec
     Inv-loop
     μ-loop
-    (λ c. search needs)
-    (λ c. search needs)
-    (λ c. search needs)
-    (λ c. search needs)
-    (λ c. search needs)
-    (λ c. search needs)
-    (λ c κs. search needs)
-    (λ c. search needs)
-    (λ c. search needs)
-    (λ c. search needs)
-    (λ c. search needs)
-    (λ c. search needs))
+    (λ c. search laws)
+    (λ c. search laws)
+    (λ c. search laws)
+    (λ c. search laws)
+    (λ c. search laws)
+    (λ c. search laws)
+    (λ c κs. search laws)
+    (λ c. search laws)
+    (λ c. search laws)
+    (λ c. search laws)
+    (λ c. search laws)
+    (λ c. search laws))

@@ -1,11 +1,15 @@
--- `stored::equal::same_list` is safe and ends. Assumes nothing.
+-- The invariant: the first i numbers are the same.
 use Prim.Native.Nat.{_≤_, _-_}
-use borrow.Author.Needs.{needs}
+use mathlib.Core.Path.{_≡_}
+use mathlib.Core.Bool.{true}
+use lib.ListN.{length}
+use Rattle.stored.specs.Same.{sameTo, row}
+use Rattle.stored.proofs.Laws.{laws}
 use Rattle.stored.proofs.equal.same_list.Statement.{statement}
 use Rattle.stored.proofs.equal.same_list.Tie as tie
 
 abbrev Inv-loop : tie.InvT-loop
-Inv-loop a b n i₀ i = i ≤ n
+Inv-loop a b n i₀ i = (i ≤ n) × (n ≤ length a) × (n ≤ length b) × (sameTo (row a) (row b) i ≡ true)
 
 abbrev μ-loop : tie.MeasureT-loop
 μ-loop a b n i₀ i = n - i
@@ -16,16 +20,16 @@ same-list-spec =
     (tie.spec
     Inv-loop
     μ-loop
-    (λ c. search needs)
-    (λ c. search needs)
-    (λ c. search needs)
-    (λ c. search needs)
-    (λ c. search needs)
-    (λ c. search needs)
-    (λ c. search needs)
-    (λ c κs. search needs)
-    (λ c. search needs)
-    (λ c. search needs)
-    (λ c. search needs)
-    (λ c. search needs)
-    (λ c. search needs))
+    (λ c. search laws)
+    (λ c. search laws)
+    (λ c. search laws)
+    (λ c. search laws)
+    (λ c. search laws)
+    (λ c. search laws)
+    (λ c. search laws)
+    (λ c κs. search laws)
+    (λ c. search laws)
+    (λ c. search laws)
+    (λ c. search laws)
+    (λ c. search laws)
+    (λ c. search laws))

@@ -1,0 +1,3 @@
+-- What the contracts of `stored` cite.
+pub mod Units
+pub mod Same
