@@ -37,6 +37,8 @@ fn link() -> Result<(), String> {
     written_for(&prefix.join(HEADER))?;
     let sha256 = digest(&library)?;
     same(&prefix.join(SHA256), &sha256)?;
+    // For the tests, which build programs in C over the same library.
+    println!("cargo:rustc-env=CANCEL_FOUND={}", library.display());
     println!("cargo:rustc-env=CANCEL_COMMIT={}", commit(&prefix.join(COMMIT)));
     println!("cargo:rustc-env=CANCEL_SHA256={sha256}");
     Ok(())
