@@ -161,7 +161,9 @@ fn statement(s: &Statement) -> Rows {
     let mut rows = vec![("File", s.file.clone())];
     rows.extend(s.recording_sha256.clone().map(|sum| ("SHA-256 of its samples", sum)));
     rows.extend(s.date.clone().map(|date| ("Taken at", date)));
+    rows.extend(s.capture.map(|number| ("Capture", number.to_string())));
     rows.extend([
+        ("Type of its samples", s.format.to_string()),
         ("Command", format!("lenakkum {}", s.version)),
         ("Library's commit", s.commit.to_string()),
         ("Library's SHA-256", s.library_sha256.to_string()),

@@ -26,8 +26,10 @@ impl Problem {
 
     /// A recording that was refused.
     pub fn refused(name: &str, refusal: Refusal) -> Problem {
+        // The package's text says what is wrong and what to do; here which words of the command line do it.
         let advice = match refusal {
-            Refusal::Size => ": --start and --length choose a part, --pieces SECONDS runs all of it part by part",
+            Refusal::Count => " (--start and --length choose a part, --pieces SECONDS runs all of it part by part)",
+            Refusal::Carrier => " (--hint HZ)",
             _ => "",
         };
         Problem::Refused(name.to_string(), refusal, advice)

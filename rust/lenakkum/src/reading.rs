@@ -36,7 +36,9 @@ pub struct Source {
     /// Of its file of samples.
     pub sha256: Option<String>,
     pub told: Told,
-    datatype: Datatype,
+    pub datatype: Datatype,
+    /// The capture that was chosen.
+    pub capture: Option<usize>,
     bytes: Bytes,
     /// Bytes read or passed over.
     read: u64,
@@ -94,7 +96,8 @@ impl Source {
         }
         let sha256 = digest(&name, &mut *file, data, how)?;
         let bytes = Bytes::Stretches(file, ahead);
-        let mut source = Source { name, rate, sha256, told, datatype, bytes, read: 0 };
+        let capture = how.capture;
+        let mut source = Source { name, rate, sha256, told, datatype, capture, bytes, read: 0 };
         if !metadata.has_header() {
             source.look()?;
         }
@@ -120,7 +123,7 @@ impl Source {
             return Err(Problem::with(&name, "--capture is for files with metadata of SigMF, and there are none"));
         }
         let (bytes, sha256) = if how.digest { digested(bytes).map_err(wrong)? } else { (bytes, None) };
-        Ok(Source { name, rate, sha256, told: Told::default(), datatype, bytes, read: 0 })
+        Ok(Source { name, rate, sha256, told: Told::default(), datatype, capture: None, bytes, read: 0 })
     }
 
     /// Stops at what is no recording.

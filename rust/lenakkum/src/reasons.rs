@@ -63,9 +63,10 @@ fn carrier(f: &RunFigures) -> String {
 }
 
 fn enough_fits(f: &RunFigures) -> Condition {
+    let fitted = if f.fitted == 1 { "1 key-down was".to_string() } else { format!("{} key-downs were", f.fitted) };
     Condition {
         holds: f.fitted >= MIN_ELEMENTS,
-        words: format!("{} key-downs were fitted (at least {MIN_ELEMENTS} are needed)", f.fitted),
+        words: format!("{fitted} fitted (at least {MIN_ELEMENTS} are needed)"),
     }
 }
 

@@ -135,7 +135,6 @@ fn file(args: &Run, number: usize, path: &Path, workspace: &mut Workspace, each:
 }
 
 fn subject(args: &Run, source: &Source, part: &Part) -> Subject {
-    let date = source.told.date(part.first, source.rate);
     Subject {
         name: source.name.clone(),
         rate: source.rate,
@@ -145,7 +144,7 @@ fn subject(args: &Run, source: &Source, part: &Part) -> Subject {
         piece: part.piece,
         told: source.told.clone(),
         explain: args.explain,
-        statement: Statement::new(&source.name, source.sha256.clone(), date, source.rate, args.hint),
+        statement: Statement::new(source, part.first, args.hint),
         stated: args.statement,
     }
 }

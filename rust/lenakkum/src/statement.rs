@@ -1,5 +1,6 @@
 //! What a statement adds to a report: of what it is a report, and by what it was made.
 
+use crate::reading::Source;
 use cancel::LIBRARY;
 use serde::Serialize;
 use std::fmt::Write;
@@ -11,6 +12,12 @@ pub struct Statement {
     pub recording_sha256: Option<String>,
     /// When the first of the samples that were run was taken.
     pub date: Option<String>,
+    /// The type of its samples, as SigMF names it.
+    pub format: &'static str,
+    /// The capture that was chosen.
+    pub capture: Option<usize>,
+    /// The first sample that was run, counted from the recording's.
+    pub first_sample: u64,
     pub rate_hz: f64,
     pub hint_hz: f64,
     pub version: &'static str,
@@ -22,12 +29,16 @@ pub struct Statement {
 pub const VERSION: &str = env!("CARGO_PKG_VERSION");
 
 impl Statement {
-    pub fn new(file: &str, sha256: Option<String>, date: Option<String>, rate_hz: f64, hint_hz: f64) -> Statement {
+    /// Of a recording from this sample on.
+    pub fn new(source: &Source, first_sample: u64, hint_hz: f64) -> Statement {
         Statement {
-            file: file.to_string(),
-            recording_sha256: sha256,
-            date,
-            rate_hz,
+            file: source.name.clone(),
+            recording_sha256: source.sha256.clone(),
+            date: source.told.date(first_sample, source.rate),
+            format: source.datatype.name(),
+            capture: source.capture,
+            first_sample,
+            rate_hz: source.rate,
             hint_hz,
             version: VERSION,
             commit: LIBRARY.commit,
@@ -37,16 +48,22 @@ impl Statement {
 
     /// Names and values, those that there are.
     fn values(&self) -> Vec<(&'static str, String)> {
-        let of = |name, value: &Option<String>| value.as_ref().map(|value| (name, value.clone()));
-        let some = [of("recording", &self.recording_sha256), of("date", &self.date)];
+        let some = [
+            ("recording", self.recording_sha256.clone()),
+            ("date", self.date.clone()),
+            ("capture", self.capture.map(|number| number.to_string())),
+            ("first", Some(self.first_sample.to_string()).filter(|_| self.first_sample > 0)),
+        ];
+        let some = some.into_iter().filter_map(|(name, value)| value.map(|value| (name, value)));
         let all = [
+            ("format", self.format.to_string()),
             ("rate", self.rate_hz.to_string()),
             ("hint", self.hint_hz.to_string()),
             ("version", self.version.to_string()),
             ("commit", self.commit.to_string()),
             ("library", self.library_sha256.to_string()),
         ];
-        some.into_iter().flatten().chain(all).collect()
+        some.chain(all).collect()
     }
 
     /// As a text, to stand after a report.

@@ -141,6 +141,7 @@ struct Fit {
     gain: [Option<f64>; 2],
     slope_rad_per_sample: Option<f64>,
     ref_sample: Option<f64>,
+    ref_s: Option<f64>,
 }
 
 /// The run in one line of JSON. An offset that is absent is null.
@@ -242,6 +243,7 @@ fn element(subject: &Subject, i: usize, key: &KeyDown, not: &mut NotFinite) -> E
 fn fit(subject: &Subject, i: usize, fit: &ElementFit, not: &mut NotFinite) -> Fit {
     let mut number = |name: &str, x| not.or(format!("fits[{i}].{name}"), x);
     let (start, end) = (number("start", fit.element.start), number("end", fit.element.end));
+    let ref_sample = number("ref_sample", fit.ref_sample);
     let seconds = |sample: Option<f64>| sample.map(|sample| subject.seconds(sample));
     Fit {
         start,
@@ -250,7 +252,8 @@ fn fit(subject: &Subject, i: usize, fit: &ElementFit, not: &mut NotFinite) -> Fi
         end_s: seconds(end),
         gain: [number("gain.re", fit.gain.re), number("gain.im", fit.gain.im)],
         slope_rad_per_sample: number("slope_rad_per_sample", fit.slope_rad_per_sample),
-        ref_sample: number("ref_sample", fit.ref_sample),
+        ref_sample,
+        ref_s: seconds(ref_sample),
     }
 }
 

@@ -10,7 +10,7 @@ use std::path::Path;
 /// How the words of each condition begin, where it fails.
 const FAILS: [&[&str]; 4] = [
     &["the gaps hold no second sender: ", "the gaps hold something that does not key: ", "it cannot be told what"],
-    &[" key-downs were fitted (at least 20 are needed)"],
+    &[" fitted (at least 20 are needed)"],
     &["the carrier was found at "],
     &["the sender's rest, over the neighbour's level, is "],
 ];
@@ -90,7 +90,7 @@ fn in_words_after_the_report_and_on_the_line() {
     let said = text(&lenakkum(&folder, "run one.cf32 two.cf32 --rate 3000 --hint 700").stdout);
     let lines: Vec<&str> = said.lines().collect();
     assert!(lines[0].contains("; kept because the gaps hold no second sender: 0 % of the gap blocks are hot (at least"));
-    assert!(lines[0].contains("; 1 key-downs were fitted (at least 20 are needed); "), "{}", lines[0]);
+    assert!(lines[0].contains("; 1 key-down was fitted (at least 20 are needed); "), "{}", lines[0]);
     assert!(lines[1].ends_with(&format!("; kept because {far}")), "{}", lines[1]);
     let said = text(&lenakkum(&folder, "run one.cf32 two.cf32 --rate 3000").stdout);
     assert!(!said.lines().last().unwrap().contains("because"), "{said}");

@@ -35,7 +35,7 @@ fn a_statement_names_the_recording_and_what_made_it() {
     let expected = |file: &str, date: &str| {
         let recording = sha256(&folder, "one.cf32");
         format!(
-            "{ONE}(statement\n(file \"{file}\")\n(recording {recording})\n{date}(rate 3000)\n(hint 0)\n\
+            "{ONE}(statement\n(file \"{file}\")\n(recording {recording})\n{date}(format cf32_le)\n(rate 3000)\n(hint 0)\n\
              (version {VERSION})\n(commit {commit})\n(library {digest}))\n"
         )
     };
@@ -53,12 +53,17 @@ fn a_statement_names_the_recording_and_what_made_it() {
     assert_eq!(stated["date"], "2026-11-16T10:00:00.050Z");
     assert_eq!(stated["recording_sha256"], Value::from(sha256(&folder, "one.cf32")));
     assert_eq!((&stated["version"], &stated["commit"]), (&VERSION.into(), &commit.as_str().into()));
+    assert_eq!(stated["first_sample"], 150);
+    // What was chosen is stated.
+    let said = lenakkum(&folder, "run one.sigmf-meta --statement --capture 0 --start 150samples");
+    let stated = "\n(date 2026-11-16T10:00:00.050Z)\n(capture 0)\n(first 150)\n(format cf32_le)\n(rate 3000)\n";
+    assert!(text(&said.stdout).contains(stated), "{}", text(&said.stdout));
     let said = lenakkum(&folder, "run one.cf32 one.sigmf-data --rate 3000 --statement");
     let lines = text(&said.stdout);
     let end = |date: &str| {
         let recording = sha256(&folder, "one.cf32");
         format!(
-            ", recording {recording}, {date}rate 3000, hint 0, version {VERSION}, commit {commit}, library {digest}"
+            ", recording {recording}, {date}format cf32_le, rate 3000, hint 0, version {VERSION}, commit {commit}, library {digest}"
         )
     };
     let ends: Vec<bool> =
@@ -125,10 +130,10 @@ fn a_page_says_all_of_it_and_fetches_nothing() {
         "21: 21 listed, 0 too short to list",
         "a&amp;&lt;b&gt;.sigmf-meta</h2>",
         "The recording was kept: every sample stays as it was.",
-        "<b>fails</b>: 1 key-downs were fitted (at least 20 are needed)",
+        "<b>fails</b>: 1 key-down was fitted (at least 20 are needed)",
         "nothing but noise in the gaps",
         "2026-11-16T10:00:00Z",
-        "It was not run: wild.cf32: refused (3): a sample is infinite or not a number.",
+        "It was not run: wild.cf32: refused (3): a sample is infinite or not a number: look at what recorded it",
         "It was not run: none.cf32: No such file or directory",
         &format!("lenakkum {VERSION}"),
         &commit,

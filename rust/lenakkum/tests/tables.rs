@@ -59,7 +59,7 @@ fn csv_has_a_row_for_every_file() {
     let airtime: Vec<f64> = [0, 3].iter().map(|&row| at(row, "airtime").parse().unwrap()).collect();
     assert!(airtime[0] == 101.0 && seconds == [airtime[0] / 3e3, airtime[1] / 3e3], "{seconds:?}");
     assert_eq!((at(0, "duration_s"), at(0, "start_s"), at(2, "rate_hz")), ("0.1", "0.0", "3000.0"));
-    assert!(at(0, "kept_because").contains("1 key-downs were fitted (at least 20 are needed); "));
+    assert!(at(0, "kept_because").contains("1 key-down was fitted (at least 20 are needed); "));
     assert_eq!((at(3, "kept_because"), at(3, "recording_sha256").len()), ("", 64));
     // Without an edge block there is no ratio.
     assert_eq!((at(0, "edge_over_neighbour_db"), at(1, "not_finite")), ("", ""));
