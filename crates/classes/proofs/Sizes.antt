@@ -6,10 +6,11 @@ use mathlib.Core.Path.{_≡_}
 use mir.Val.{Fits}
 use mir.Syntax.{w64}
 use lib.Ieee.{Float}
-use Rattle.float.specs.Ops.{_⊕_, _⊖_, _⊘_, of, one, two}
+use Rattle.float.specs.Ops.{_⊕_, of}
 use Rattle.row.specs.Window.{Rate, stepOf, windowOf}
 use Rattle.row.proofs.Steps.{step-low, step-high}
 use Rattle.classes.specs.Classify.{blocksOf, blockCentre}
+use Rattle.classes.specs.Inner.{halfOf}
 
 pub window-small : (fs : Float) (len : ℕ) → Rate fs → len ≡ windowOf fs → len ≤ 512
 window-small fs len r e = omega (arith, step-high fs r)
@@ -23,9 +24,6 @@ blocks-few fs n m h e =
     let wide : 8 ≤ windowOf fs = omega (arith, step-low fs) in
     omega (arith, div-mul-le-self n (windowOf fs), mul-le-mul-left (n / windowOf fs) wide)
 
-pub window-exact : (fs : Float) (len : ℕ) → Rate fs → len ≡ windowOf fs → len ≤ 9007199254740992
-window-exact fs len r e = omega (arith, step-high fs r)
-
 block-small : (b len m : ℕ) → b < m → m ≤ 131072 → len ≤ 512 → b * len ≤ 67108864
 block-small b len m h g s = let few : b ≤ 131072 = omega arith in mul-le-mul few s
 
@@ -36,5 +34,5 @@ first-fits b len m h g s = record { fits = let small = block-small b len m h g s
 pub first-exact : (b len m : ℕ) → b < m → m ≤ 131072 → len ≤ 512 → b * len ≤ 9007199254740992
 first-exact b len m h g s = let small = block-small b len m h g s in omega arith
 
-pub centre-is : (len b : ℕ) (l a : Float) → l ≡ of len → a ≡ of (b * len) → a ⊕ (l ⊖ one) ⊘ two ≡ blockCentre len b
-centre-is len b l a e f = rw (e, f)
+pub centre-is : (len b : ℕ) (h a : Float) → h ≡ halfOf len → a ≡ of (b * len) → a ⊕ h ≡ blockCentre len b
+centre-is len b h a e f = rw (e, f)

@@ -6,11 +6,16 @@ use mathlib.Core.List.{List}
 use lib.Dec.{leb, ltb}
 use lib.ListN.{length, getD}
 use lib.Ieee.{Float, nan, lt}
+use Rattle.float.specs.Ops.{_⊖_, _⊘_, of, one, two}
 use Rattle.lists.specs.Firsts.{firsts}
 use Rattle.elements.specs.declared.element.KeyedElement.{KeyedElement}
 use Rattle.classes.specs.declared.class.BlockClass.the-variants.{Edge, Interior, Other}
 use Rattle.classes.specs.Class.{codeOf}
 use Rattle.classes.specs.Classify.{timesOf, blockCentre, inRange, near, inside, atEdge}
+
+-- from a block's first sample to its centre
+abbrev pub halfOf : ℕ → Float
+halfOf len = (of len ⊖ one) ⊘ two
 
 -- a list with x at each place that passes a test
 unfoldable pub labelled : List Float → (ℕ → Bool) → Float → List Float

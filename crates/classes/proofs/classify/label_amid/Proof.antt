@@ -25,15 +25,15 @@ abbrev μ-loop : tie.MeasureT-loop
 mul-exact : tie.Need-mul-exact Inv-loop μ-loop
 mul-exact c = first-fits _ _ (length (c .before .loop .class)) (search needs) (search needs) (search needs)
 
-exact-requires-2 : tie.Need-exact-requires-2 Inv-loop μ-loop
-exact-requires-2 c κs = first-exact _ _ (length (c .before .loop .class)) (search needs) (search needs) (search needs)
+exact-requires : tie.Need-exact-requires Inv-loop μ-loop
+exact-requires c κs = first-exact _ _ (length (c .before .loop .class)) (search needs) (search needs) (search needs)
 
 loop-again : tie.Need-loop-again Inv-loop μ-loop
 loop-again c =
     let at = c .before in
     let loop = at .before .before in
     let inv = loop .loop .inv in
-    let centre = centre-is _ _ _ _ (loop .before .exact .ensures) (at .exact2 .ensures) in
+    let centre = centre-is _ _ _ _ (loop .before .half-of .ensures) (at .exact .ensures) in
     ⊎-elim
     (λ w. (
       search needs,
@@ -64,7 +64,7 @@ label-amid-spec =
     (λ c κs. search needs)
     (λ c. search (needs, label-none))
     mul-exact
-    exact-requires-2
+    exact-requires
     (λ c. search needs)
     (λ c. search needs)
     (λ c. search needs)

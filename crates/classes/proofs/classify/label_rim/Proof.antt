@@ -7,7 +7,7 @@ use Rattle.classes.specs.Classify.{onRim}
 use Rattle.classes.specs.Inner.{labelled, between}
 use Rattle.classes.proofs.Labelled.{label-none, label-yes, label-no, label-everywhere}
 use Rattle.classes.proofs.Zones.{rim-is}
-use Rattle.classes.proofs.Sizes.{window-small, window-exact, first-fits, first-exact, centre-is}
+use Rattle.classes.proofs.Sizes.{window-small, first-fits, first-exact, centre-is}
 use borrow.Author.Needs.{needs}
 use Rattle.classes.proofs.classify.label_rim.Statement.{statement}
 use Rattle.classes.proofs.classify.label_rim.Tie as tie
@@ -19,14 +19,14 @@ Inv-loop fs len n class₀ rim last half x blocks b₀ class b =
 abbrev μ-loop : tie.MeasureT-loop
 μ-loop fs len n class₀ rim last half x blocks b₀ class b = blocks - b
 
-exact-requires-2 : tie.Need-exact-requires-2 Inv-loop μ-loop
-exact-requires-2 c κs = search (needs, window-exact)
+half-of-requires : tie.Need-half-of-requires Inv-loop μ-loop
+half-of-requires c κs = search (needs, window-small)
 
 mul-exact : tie.Need-mul-exact Inv-loop μ-loop
 mul-exact c = first-fits _ _ (length (c .before .loop .class)) (search needs) (search needs) (search (needs, window-small))
 
-exact-requires-3 : tie.Need-exact-requires-3 Inv-loop μ-loop
-exact-requires-3 c κs = first-exact _ _ (length (c .before .loop .class)) (search needs) (search needs) (search (needs, window-small))
+exact-requires-2 : tie.Need-exact-requires-2 Inv-loop μ-loop
+exact-requires-2 c κs = first-exact _ _ (length (c .before .loop .class)) (search needs) (search needs) (search (needs, window-small))
 
 loop-again : tie.Need-loop-again Inv-loop μ-loop
 loop-again c =
@@ -35,7 +35,7 @@ loop-again c =
     let inv = loop .loop .inv in
     let made = loop .before .before in
     let args = made .before .before .before in
-    let centre = centre-is _ _ _ _ (made .exact2 .ensures) (at .exact3 .ensures) in
+    let centre = centre-is _ _ _ _ (made .half-of .ensures) (at .exact2 .ensures) in
     let rim = rim-is _ _ _ _ _ _ (args .pre .1 .0) (made .before .exact .ensures) centre in
     ⊎-elim
     (λ w. (
@@ -58,11 +58,11 @@ label-rim-spec =
     Inv-loop
     μ-loop
     (λ c κs. search needs)
-    exact-requires-2
+    half-of-requires
     (λ c κs. search needs)
     (λ c. search (needs, label-none))
     mul-exact
-    exact-requires-3
+    exact-requires-2
     (λ c. search needs)
     (λ c. search needs)
     (λ c. search needs)
