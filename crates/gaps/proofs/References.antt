@@ -23,6 +23,7 @@ use Rattle.classes.specs.declared.class.BlockClass.the-variants.{Gap, Interior}
 use Rattle.rank.specs.declared.Percentile.{Percentile}
 use Rattle.rank.specs.declared.Percentile.the-variants.{Value, Nothing}
 use Rattle.rank.specs.Select.{percentileOf}
+use Rattle.prepared.specs.Sections.{CLASSES, SIDES}
 use Rattle.prepared.specs.Inner.{hasCode, classIn, powerIn, powersIn}
 use Rattle.prepared.specs.Powers.{blockPower}
 use Rattle.gaps.specs.Reference.{orZero, medianOf, sideOf, referenceFrom, referenceBy, meanAt}
@@ -145,16 +146,16 @@ floor-bits = refl
 
 -- the median of the interior blocks was taken in the slice v, after the side's; the slice was w before both
 pub reference-is : (mean : Float → ℕ → Complex) (carrier : Float) (w v : List Float) (blocks : ℕ) (p : Percentile) (side inner first r : Float)
-    → take (3 * blocks) v ≡ take (3 * blocks) w
-    → side ≡ medianOf (sideOf mean carrier (classIn w (2 * blocks) Gap) blocks)
-    → p ≡ percentileOf (powersIn v 0 (2 * blocks) blocks Interior) half → inner ≡ orZero p
+    → take (SIDES * blocks) v ≡ take (SIDES * blocks) w
+    → side ≡ medianOf (sideOf mean carrier (classIn w (CLASSES * blocks) Gap) blocks)
+    → p ≡ percentileOf (powersIn v 0 (CLASSES * blocks) blocks Interior) half → inner ≡ orZero p
     → first ≡ maxOf side (bits 0x3d71_9799_812d_ea11 ⊗ inner) → r ≡ maxOf first (bits 0x0010_0000_0000_0000)
-    → r ≡ referenceBy mean carrier (classIn w (2 * blocks) Gap) (classIn w (2 * blocks) Interior) (zAt w) blocks
+    → r ≡ referenceBy mean carrier (classIn w (CLASSES * blocks) Gap) (classIn w (CLASSES * blocks) Interior) (zAt w) blocks
 unfolding referenceBy referenceFrom
 reference-is mean carrier w v blocks p side inner first r a s q o e h =
-    rw (h, e, s, o, q, powers-same v w 0 (2 * blocks) blocks Interior (3 * blocks) a (omega arith) (omega arith), from-zero, floor-bits, min-positive-bits)
+    rw (h, e, s, o, q, powers-same v w 0 (CLASSES * blocks) blocks Interior (SIDES * blocks) a (omega arith) (omega arith), from-zero, floor-bits, min-positive-bits)
   where
-    from-zero : powersIn w 0 (2 * blocks) blocks Interior ≡ picked (classIn w (2 * blocks) Interior) (blockPower (zAt w)) blocks
+    from-zero : powersIn w 0 (CLASSES * blocks) blocks Interior ≡ picked (classIn w (CLASSES * blocks) Interior) (blockPower (zAt w)) blocks
     from-zero =
-        picked-cong (classIn w (2 * blocks) Interior) (classIn w (2 * blocks) Interior) (powerIn w 0) (blockPower (zAt w)) blocks (λ b l. refl)
+        picked-cong (classIn w (CLASSES * blocks) Interior) (classIn w (CLASSES * blocks) Interior) (powerIn w 0) (blockPower (zAt w)) blocks (λ b l. refl)
         (λ b l t. let here : 0 + b ≡ b = omega arith in rw here)

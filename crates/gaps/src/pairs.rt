@@ -1,16 +1,19 @@
-// Hot gap blocks, and pairs of consecutive gap blocks, against a reference. The work slice holds the blocks' means as
-// complex numbers and then the numbers of their classes.
+// Hot gap blocks, and pairs of consecutive gap blocks, against a reference. Rust: lines 525 to 527 and 548 to 569 of
+// cancel.rs in second_carrier_evidence. The work slice holds the blocks' means and the numbers of their classes, each in
+// its section.
 use classes::BlockClass;
 use classes::is_class;
 use complex::Complex;
 use complex::get;
 use constants::HOT_FACTOR;
 use constants::PAIR_FACTOR;
+use prepared::sections::CLASSES;
 ghost use mathlib.Core.Path.{_≡_};
 ghost use Prim.Native.Nat.{_+_, _*_, _≤_, _<_};
 ghost use lib.ListN.{length};
 ghost use Rattle.complex.specs.Rows.{zAt};
 ghost use Rattle.classes.specs.declared.class.BlockClass.the-variants.{Gap};
+ghost use Rattle.prepared.specs.Sections.{CLASSES, SIDES};
 ghost use Rattle.prepared.specs.Inner.{classIn};
 ghost use Rattle.gaps.specs.Inner.{pairPlus};
 ghost use Rattle.gaps.specs.Pairs.{above, preceded, followed, pairAt, inPair, lagged, gapsOf, strong, pairsOf};
@@ -51,10 +54,10 @@ impl Pairs {
 // Whether block b is a gap block whose power is above a level.
 fn above(work: &[f64], blocks: usize, level: f64, b: usize) -> bool
     requires { ⌜ b < blocks ⌝ }
-    requires { ⌜ 3 * blocks ≤ length (now work) ⌝ }
-    ensures { λ r. ⌜ r ≡ above (classIn (now (work .entry)) (2 * blocks) Gap) (zAt (now (work .entry))) level b ⌝ }
+    requires { ⌜ SIDES * blocks ≤ length (now work) ⌝ }
+    ensures { λ r. ⌜ r ≡ above (classIn (now (work .entry)) (CLASSES * blocks) Gap) (zAt (now (work .entry))) level b ⌝ }
 {
-    if is_class(work, 2 * blocks + b, BlockClass::Gap) {
+    if is_class(work, CLASSES * blocks + b, BlockClass::Gap) {
         get(work, b).norm_sqr() > level
     } else {
         false
@@ -64,8 +67,8 @@ fn above(work: &[f64], blocks: usize, level: f64, b: usize) -> bool
 // The same of the block before block b ..
 fn preceded(work: &[f64], blocks: usize, level: f64, b: usize) -> bool
     requires { ⌜ b < blocks ⌝ }
-    requires { ⌜ 3 * blocks ≤ length (now work) ⌝ }
-    ensures { λ r. ⌜ r ≡ preceded (above (classIn (now (work .entry)) (2 * blocks) Gap) (zAt (now (work .entry))) level) b ⌝ }
+    requires { ⌜ SIDES * blocks ≤ length (now work) ⌝ }
+    ensures { λ r. ⌜ r ≡ preceded (above (classIn (now (work .entry)) (CLASSES * blocks) Gap) (zAt (now (work .entry))) level) b ⌝ }
 {
     if b == 0 {
         return false;
@@ -76,8 +79,8 @@ fn preceded(work: &[f64], blocks: usize, level: f64, b: usize) -> bool
 // .. and of the one after it.
 fn followed(work: &[f64], blocks: usize, level: f64, b: usize) -> bool
     requires { ⌜ b < blocks ⌝ }
-    requires { ⌜ 3 * blocks ≤ length (now work) ⌝ }
-    ensures { λ r. ⌜ r ≡ followed (above (classIn (now (work .entry)) (2 * blocks) Gap) (zAt (now (work .entry))) level) blocks b ⌝ }
+    requires { ⌜ SIDES * blocks ≤ length (now work) ⌝ }
+    ensures { λ r. ⌜ r ≡ followed (above (classIn (now (work .entry)) (CLASSES * blocks) Gap) (zAt (now (work .entry))) level) blocks b ⌝ }
 {
     if b + 1 < blocks {
         return above(work, blocks, level, b + 1);
@@ -88,8 +91,8 @@ fn followed(work: &[f64], blocks: usize, level: f64, b: usize) -> bool
 // Whether a pair ends at block b. Rust: the test of the loop over `gap_idx.windows(2)`.
 fn pair_at(work: &[f64], blocks: usize, level: f64, b: usize) -> bool
     requires { ⌜ b < blocks ⌝ }
-    requires { ⌜ 3 * blocks ≤ length (now work) ⌝ }
-    ensures { λ r. ⌜ r ≡ pairAt (above (classIn (now (work .entry)) (2 * blocks) Gap) (zAt (now (work .entry))) level) b ⌝ }
+    requires { ⌜ SIDES * blocks ≤ length (now work) ⌝ }
+    ensures { λ r. ⌜ r ≡ pairAt (above (classIn (now (work .entry)) (CLASSES * blocks) Gap) (zAt (now (work .entry))) level) b ⌝ }
 {
     if preceded(work, blocks, level, b) {
         return above(work, blocks, level, b);
@@ -100,8 +103,8 @@ fn pair_at(work: &[f64], blocks: usize, level: f64, b: usize) -> bool
 // Whether block b is in a pair. Rust: what goes into `pair_blocks`.
 pub fn in_pair(work: &[f64], blocks: usize, level: f64, b: usize) -> bool
     requires { ⌜ b < blocks ⌝ }
-    requires { ⌜ 3 * blocks ≤ length (now work) ⌝ }
-    ensures { λ r. ⌜ r ≡ inPair (above (classIn (now (work .entry)) (2 * blocks) Gap) (zAt (now (work .entry))) level) blocks b ⌝ }
+    requires { ⌜ SIDES * blocks ≤ length (now work) ⌝ }
+    ensures { λ r. ⌜ r ≡ inPair (above (classIn (now (work .entry)) (CLASSES * blocks) Gap) (zAt (now (work .entry))) level) blocks b ⌝ }
 {
     if above(work, blocks, level, b) {
         if preceded(work, blocks, level, b) {
@@ -123,14 +126,14 @@ fn lagged(work: &[f64], b: usize) -> Complex
 
 // Rust: `gap_idx.len()` and `hot`.
 pub fn count_gaps(work: &[f64], blocks: usize, reference: f64) -> Gaps
-    requires { ⌜ 3 * blocks ≤ length (now work) ⌝ }
-    ensures { λ r. ⌜ r ≡ gapsOf (classIn (now (work .entry)) (2 * blocks) Gap) (zAt (now (work .entry))) reference blocks ⌝ }
+    requires { ⌜ SIDES * blocks ≤ length (now work) ⌝ }
+    ensures { λ r. ⌜ r ≡ gapsOf (classIn (now (work .entry)) (CLASSES * blocks) Gap) (zAt (now (work .entry))) reference blocks ⌝ }
 {
     let level = HOT_FACTOR * reference;
     let mut gap: usize = 0;
     let mut hot: usize = 0;
     for b in 0..blocks {
-        if is_class(work, 2 * blocks + b, BlockClass::Gap) {
+        if is_class(work, CLASSES * blocks + b, BlockClass::Gap) {
             gap = gap + 1;
         }
         if above(work, blocks, level, b) {
@@ -143,8 +146,8 @@ pub fn count_gaps(work: &[f64], blocks: usize, reference: f64) -> Gaps
 // Rust: the loop over `gap_idx.windows(2)`.
 pub fn sum_pairs(work: &[f64], blocks: usize, reference: f64) -> Pairs
     requires { ⌜ blocks ≤ 1048576 ⌝ }
-    requires { ⌜ 3 * blocks ≤ length (now work) ⌝ }
-    ensures { λ r. ⌜ r ≡ pairsOf (strong (classIn (now (work .entry)) (2 * blocks) Gap) (zAt (now (work .entry))) reference) (zAt (now (work .entry))) blocks ⌝ }
+    requires { ⌜ SIDES * blocks ≤ length (now work) ⌝ }
+    ensures { λ r. ⌜ r ≡ pairsOf (strong (classIn (now (work .entry)) (CLASSES * blocks) Gap) (zAt (now (work .entry))) reference) (zAt (now (work .entry))) blocks ⌝ }
 {
     let level = PAIR_FACTOR * reference;
     let mut found = Pairs::NO_PAIRS;

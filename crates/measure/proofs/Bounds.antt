@@ -40,7 +40,7 @@ use Rattle.synth.proofs.Bounds.{sized-bounded, synth-bounded}
 use Rattle.classes.specs.declared.class.BlockClass.{BlockClass}
 use Rattle.classes.specs.Class.{isClass}
 use Rattle.prepared.specs.Powers.{blockPower, powersOf}
-use Rattle.prepared.specs.Left.{takenFrom, lessFit, lessFits, residualMean}
+use Rattle.prepared.specs.Left.{lessFrom, lessFit, lessFits, residualMean}
 
 -- a bound with its power of two taken apart
 cbounded-shift : (j : ℕ) {k a : ℕ} {z : Complex} → CBounded k (a * 2 ^ j) z → CBounded (k + j) a z
@@ -81,13 +81,13 @@ module _ (fs : Float) (len blocks : ℕ) (some : 1 ≤ len) (short : len ≤ 512
   term-bounded f k g =
       cbounded-shift 3 {k = 455} {a = 1} (cbounded-div (synth-bounded fs f k {j = 355} {a = 1} (g .bound) (lit≤ tt) (lit≤ tt)) (beyond-whole len some (omega arith)) (lit≤ tt) (lit≤ tt))
 
-  taken-bounded : (f : ElementFit) (z : Complex) (p n : ℕ) {a : ℕ} → Gain f → CBounded 458 a z → a + n ≤ 2 ^ 53 → CBounded 458 (a + n) (takenFrom fs len f z p n)
-  unfolding takenFrom
-  taken-bounded f z p zero {a} g c h = cbounded-more c (omega arith) (lit≤ tt)
-  taken-bounded f z p (suc n) {a} g c h =
+  lessFrom-bounded : (f : ElementFit) (z : Complex) (p n : ℕ) {a : ℕ} → Gain f → CBounded 458 a z → a + n ≤ 2 ^ 53 → CBounded 458 (a + n) (lessFrom fs len f z p n)
+  unfolding lessFrom
+  lessFrom-bounded f z p zero {a} g c h = cbounded-more c (omega arith) (lit≤ tt)
+  lessFrom-bounded f z p (suc n) {a} g c h =
       let next : a + suc n ≡ a + n + 1 = omega arith in
-      subst (λ m. CBounded 458 m (cSub (takenFrom fs len f z p n) (cDiv (synthAt fs f (p + n)) (of len)))) (sym next)
-      (cbounded-sub (taken-bounded f z p n g c (omega arith)) (term-bounded f (p + n) g) (omega arith) (lit≤ tt))
+      subst (λ m. CBounded 458 m (cSub (lessFrom fs len f z p n) (cDiv (synthAt fs f (p + n)) (of len)))) (sym next)
+      (cbounded-sub (lessFrom-bounded f z p n g c (omega arith)) (term-bounded f (p + n) g) (omega arith) (lit≤ tt))
 
   less-bounded : (f : ElementFit) (b : ℕ) (z : Complex) {a : ℕ} → Gain f → CBounded 458 a z → a + 512 ≤ 2 ^ 53 → CBounded 458 (a + 512) (lessFit fs len blocks f b z)
   unfolding lessFit
@@ -95,7 +95,7 @@ module _ (fs : Float) (len blocks : ℕ) (some : 1 ≤ len) (short : len ≤ 512
       let s = spanOf fs (blocks * len) f in
       let n = min (s .hi) (b * len + len) - max (s .lo) (b * len) in
       let fewer : n ≤ 512 = omega arith in
-      cbounded-more (taken-bounded f z (max (s .lo) (b * len)) n g c (omega arith)) (omega arith) (lit≤ tt)
+      cbounded-more (lessFrom-bounded f z (max (s .lo) (b * len)) n g c (omega arith)) (omega arith) (lit≤ tt)
 
   pub left-bounded : (fits : List ElementFit) (b : ℕ) (z : Complex) {a : ℕ} → Gains fits → CBounded 458 a z → a + length fits * 512 ≤ 2 ^ 53
       → CBounded 458 (a + length fits * 512) (lessFits fs len blocks fits b z)

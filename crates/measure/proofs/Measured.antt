@@ -24,6 +24,9 @@ use Rattle.classes.proofs.Counts.{counts-hold}
 use Rattle.measure.specs.declared.residual.ResidualCheck.{ResidualCheck}
 use Rattle.measure.specs.declared.evidence.SecondCarrierEvidence.{SecondCarrierEvidence}
 use Rattle.measure.specs.declared.both.Measures.{Measures}
+use Rattle.prepared.specs.declared.prepare.Grid.{Grid}
+use Rattle.prepared.specs.Grid.{gridOf}
+use Rattle.prepared.specs.Sections.{CLASSES, SIDES}
 use Rattle.prepared.specs.Inner.{Prepared, classIn}
 use Rattle.measure.specs.Inner.{residualIn}
 use Rattle.measure.specs.Residual.{residualCheckOf}
@@ -31,39 +34,40 @@ use Rattle.gaps.specs.Reference.{meanAt}
 use Rattle.measure.specs.Evidence.{evidenceBy, evidenceCheckOf}
 use Rattle.measure.specs.Both.{measuresOf}
 use Rattle.prepared.proofs.Gathered.{prepared-kept}
+use Rattle.measure.proofs.Grids.{grid-count}
 use Rattle.measure.proofs.Figures as residuals
 use Rattle.measure.proofs.Evidences as evidences
 
 -- the part of a prepared slice that holds the numbers of the classes
-pub classes-held : (w : List Float) (z : ℕ → Complex) (class : ℕ → BlockClass) (blocks : ℕ) → Prepared w z class blocks → take blocks (drop (2 * blocks) w) ≡ codesOf class blocks
+pub classes-held : (w : List Float) (z : ℕ → Complex) (class : ℕ → BlockClass) (blocks : ℕ) → Prepared w z class blocks → take blocks (drop (CLASSES * blocks) w) ≡ codesOf class blocks
 classes-held w z class blocks p =
     let room : 32 * blocks ≤ length w = p .room in
-    let size : length (drop (2 * blocks) w) ≡ length w - 2 * blocks = length-drop (2 * blocks) w in
-    sym (firsts-take (λ b. codeOf (class b)) (drop (2 * blocks) w) nan blocks (omega arith)
-    (λ b h. sym (getD-drop (2 * blocks) w b nan ∙ p .class b h)))
+    let size : length (drop (CLASSES * blocks) w) ≡ length w - CLASSES * blocks = length-drop (CLASSES * blocks) w in
+    sym (firsts-take (λ b. codeOf (class b)) (drop (CLASSES * blocks) w) nan blocks (omega arith)
+    (λ b h. sym (getD-drop (CLASSES * blocks) w b nan ∙ p .class b h)))
 
 pub classes-counted : (w : List Float) (z : ℕ → Complex) (class : ℕ → BlockClass) (blocks n : ℕ) (r : ClassCounts)
-    → blocks ≡ n → Prepared w z class n → r ≡ countsIn (take (3 * blocks - 2 * blocks) (drop (2 * blocks) w)) → r ≡ countsOf class n
+    → blocks ≡ n → Prepared w z class n → r ≡ countsIn (take (SIDES * blocks - CLASSES * blocks) (drop (CLASSES * blocks) w)) → r ≡ countsOf class n
 classes-counted w z class blocks n r e p h =
-    let size : 3 * n - 2 * n ≡ n = omega arith in
+    let size : SIDES * n - CLASSES * n ≡ n = omega arith in
     (rw (e, size) at h) ∙ counts-hold class n _ (classes-held w z class n p)
 
 -- all of them, from the slice w that was prepared and the slice v that the residual check leaves of it
-module _ (iq : List Float) (fs carrier : Float) (fits : List ElementFit) (elements : List KeyedElement) (w v : List Float) (blocks : ℕ) where
+module _ (iq : List Float) (fs carrier : Float) (fits : List ElementFit) (elements : List KeyedElement) (w v : List Float) (g : Grid) where
   abbrev class : ℕ → BlockClass
   class = classOf fs (samples iq) fits elements
 
-  pub measures-are : (classes : ClassCounts) (residual : ResidualCheck) (evidence : SecondCarrierEvidence) → blocks ≡ window.blocks iq (windowOf fs)
+  pub measures-are : (classes : ClassCounts) (residual : ResidualCheck) (evidence : SecondCarrierEvidence) → g ≡ gridOf iq fs carrier
       → Prepared w (blockMean iq (carrier ⊘ fs) (windowOf fs)) (classOf fs (samples iq) fits elements) (window.blocks iq (windowOf fs))
-      → classes ≡ countsIn (take (3 * blocks - 2 * blocks) (drop (2 * blocks) w)) → residual ≡ residualIn w blocks fs fits
-      → take (3 * blocks) v ≡ take (3 * blocks) w → length v ≡ length w
-      → evidence ≡ evidenceBy (meanAt iq fs) fs carrier (classIn v (2 * blocks) Gap) (classIn v (2 * blocks) Interior) (zAt v) blocks
-      → _≡_ {A = Measures} (record { blocks = blocks; classes = classes; residual = residual; evidence = evidence }) (measuresOf iq fs carrier fits elements)
+      → classes ≡ countsIn (take (SIDES * g .blocks - CLASSES * g .blocks) (drop (CLASSES * g .blocks) w)) → residual ≡ residualIn w (g .blocks) (g .fs) fits
+      → take (SIDES * g .blocks) v ≡ take (SIDES * g .blocks) w → length v ≡ length w
+      → evidence ≡ evidenceBy (meanAt iq (g .fs)) (g .fs) (g .carrier) (classIn v (CLASSES * g .blocks) Gap) (classIn v (CLASSES * g .blocks) Interior) (zAt v) (g .blocks)
+      → _≡_ {A = Measures} (record { blocks = g .blocks; classes = classes; residual = residual; evidence = evidence }) (measuresOf iq fs carrier fits elements)
   unfolding measuresOf
   measures-are classes residual evidence n p c r k l e =
       let z = blockMean iq (carrier ⊘ fs) (windowOf fs) in
       let still = prepared-kept w v z class (window.blocks iq (windowOf fs)) p (rw n at k) l in
-      let a : classes ≡ countsOf class (window.blocks iq (windowOf fs)) = classes-counted w z class blocks _ classes n p c in
-      let b : residual ≡ residualCheckOf iq fs carrier fits elements = residuals.check-is w z class blocks _ fs fits residual n p r in
-      let d : evidence ≡ evidenceCheckOf iq fs carrier fits elements = evidences.check-is iq fs carrier class blocks v evidence n still e in
+      let a : classes ≡ countsOf class (window.blocks iq (windowOf fs)) = classes-counted w z class (g .blocks) _ classes (grid-count iq fs carrier g n) p c in
+      let b : residual ≡ residualCheckOf iq fs carrier fits elements = residuals.check-is iq fs carrier g w z class fits residual n p r in
+      let d : evidence ≡ evidenceCheckOf iq fs carrier fits elements = evidences.check-is iq fs carrier g class v evidence n still e in
       rw (n, a, b, d)

@@ -1,4 +1,4 @@
--- The ways out of `ratio_db`, `floored_at` and `clean`, and what the residual check answers where a class has no block.
+-- The ways out of `ratio_db`, the floor under its lower side, and `clean`, and what the residual check answers where a class has no block.
 use mathlib.Core.Path.{_≡_, refl}
 use mathlib.Core.Bool.{true, false}
 use lib.Ieee.{Float, inf, lt, ofBits, ofInt, div}
@@ -38,10 +38,10 @@ module _ (num den : Percentile) where
     ratio-is m l h p q = rw (e, f, h, q, p, ten-is, min-positive-bits)
 
 module _ (level : Percentile) where
-  pub floored-none : level ≡ Nothing → Nothing ≡ floored level
+  pub floored-none : level ≡ Nothing → floored level ≡ Nothing
   unfolding floored
   floored-none e = rw e
 
-  pub floored-some : (v m : Float) → level ≡ Value v → m ≡ maxOf v (bits 0x0010_0000_0000_0000) → Value m ≡ floored level
+  pub floored-some : (v m : Float) → level ≡ Value v → m ≡ maxOf v (bits 0x0010_0000_0000_0000) → floored level ≡ Value m
   unfolding floored
   floored-some v m e p = rw (e, p, min-positive-bits)

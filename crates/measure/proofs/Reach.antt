@@ -27,7 +27,7 @@ use Rattle.classes.specs.Class.{isClass}
 use Rattle.classes.specs.Classify.{timesOf, timesOfFit, classOf}
 use Rattle.classes.proofs.ByTimes.{class-by-times}
 use Rattle.prepared.specs.Powers.{blockPower, powersOf}
-use Rattle.prepared.specs.Left.{takenFrom, lessFit, lessFits, residualMean}
+use Rattle.prepared.specs.Left.{lessFrom, lessFit, lessFits, residualMean}
 use Rattle.measure.specs.Residual.{residualOf, residualCheckOf}
 use Rattle.measure.specs.Agree.{AgreeIn}
 
@@ -47,14 +47,14 @@ block-agree iq iq' cyc len b h =
 
 module _ (fs : Float) (len blocks : ℕ) where
   module _ (f g : ElementFit) (same : rustOf f ≡ rustOf g) where
-    taken-alike : (z : Complex) (a n : ℕ) → takenFrom fs len f z a n ≡ takenFrom fs len g z a n
-    unfolding takenFrom
-    taken-alike z a zero = refl
-    taken-alike z a (suc n) = rw (taken-alike z a n, synth-alike fs f g same (a + n))
+    lessFrom-alike : (z : Complex) (a n : ℕ) → lessFrom fs len f z a n ≡ lessFrom fs len g z a n
+    unfolding lessFrom
+    lessFrom-alike z a zero = refl
+    lessFrom-alike z a (suc n) = rw (lessFrom-alike z a n, synth-alike fs f g same (a + n))
 
     less-alike : (b : ℕ) (z : Complex) → lessFit fs len blocks f b z ≡ lessFit fs len blocks g b z
     unfolding lessFit
-    less-alike b z = rw (span-alike fs f g same (blocks * len)) (taken-alike z _ _)
+    less-alike b z = rw (span-alike fs f g same (blocks * len)) (lessFrom-alike z _ _)
 
   -- what is left of a mean
   pub left-alike : (fits others : List ElementFit) (b : ℕ) (z : Complex) → map rustOf fits ≡ map rustOf others → lessFits fs len blocks fits b z ≡ lessFits fs len blocks others b z

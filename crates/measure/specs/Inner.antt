@@ -9,6 +9,7 @@ use Rattle.fits.specs.declared.fit.ElementFit.{ElementFit}
 use Rattle.prepared.specs.declared.powers.Level.{Level}
 use Rattle.prepared.specs.Powers.{blockPower}
 use Rattle.prepared.specs.Left.{residualMean}
+use Rattle.prepared.specs.Sections.{CLASSES}
 use Rattle.prepared.specs.Inner.{classIn}
 use Rattle.measure.specs.declared.residual.ResidualCheck.{ResidualCheck}
 use Rattle.measure.specs.Residual.{ratioDb, floored, figuresOf}
@@ -28,4 +29,4 @@ figuresFrom edge interior gap =
 unfoldable pub residualIn : List Float → ℕ → Float → List ElementFit → ResidualCheck
 residualIn w blocks fs fits =
     let left = blockPower (residualMean fs blocks fits (zAt w)) in
-    figuresOf (picked (classIn w (2 * blocks) Edge) left blocks) (picked (classIn w (2 * blocks) Interior) left blocks) (picked (classIn w (2 * blocks) Gap) left blocks)
+    figuresOf (picked (classIn w (CLASSES * blocks) Edge) left blocks) (picked (classIn w (CLASSES * blocks) Interior) left blocks) (picked (classIn w (CLASSES * blocks) Gap) left blocks)

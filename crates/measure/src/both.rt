@@ -6,6 +6,8 @@ use crate::residual::residual;
 use classes::ClassCounts;
 use classes::count_classes;
 use prepared::prepare::prepare;
+use prepared::sections::CLASSES;
+use prepared::sections::SIDES;
 ghost use mathlib.Core.Path.{_≡_};
 ghost use Prim.Native.Nat.{_*_, _≤_};
 ghost use lib.ListN.{length};
@@ -45,7 +47,7 @@ pub fn measure_both(
     requires { ⌜ 4 * stepBlocks (now iq) fs ≤ length (now work) ⌝ }
     ensures { λ r. ⌜ r ≡ measuresOf (now (iq .entry)) fs carrier (fitsIn (now (fits .entry)) «fit_count») (elementsIn (now (elements .entry)) «element_count») ⌝ }
 {
-    let blocks = prepare(
+    let grid = prepare(
         iq,
         fs,
         carrier,
@@ -56,13 +58,14 @@ pub fn measure_both(
         work,
         sine,
     );
-    let from = 2 * blocks;
-    let past = 3 * blocks;
+    let blocks = grid.blocks;
+    let from = CLASSES * blocks;
+    let past = SIDES * blocks;
     let classes = count_classes(&work[from..past]);
-    let check = residual(work, blocks, fs, fits, fit_count, sine);
-    let found = evidence(iq, fs, carrier, work, blocks, sine);
+    let check = residual(work, grid, fits, fit_count, sine);
+    let found = evidence(iq, grid, work, sine);
     Measures {
-        blocks: blocks,
+        blocks,
         classes,
         residual: check,
         evidence: found,

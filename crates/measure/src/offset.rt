@@ -1,7 +1,9 @@
-// The offset of a second carrier from the strong one, by the pairs of gap blocks.
+// The offset of a second carrier from the strong one, by the pairs of gap blocks. Rust: lines 573 to 596 of cancel.rs in
+// second_carrier_evidence.
 use constants::PAIR_FACTOR;
 use gaps::pairs::Pairs;
 use gaps::pairs::in_pair;
+use prepared::prepare::Grid;
 use row::block_mean;
 use trig::TAU;
 ghost use mathlib.Core.Path.{_≡_};
@@ -14,10 +16,10 @@ ghost use Rattle.lists.specs.Sums.{sumOver};
 ghost use Rattle.trig.specs.Circle.{quarterSines};
 ghost use Rattle.complex.specs.Rows.{zAt};
 ghost use Rattle.row.specs.Samples.{Iq};
-ghost use Rattle.row.specs.Window.{windowOf};
-ghost use Rattle.row.specs.Window as Window;
+ghost use Rattle.row.specs.Window.{windowOf, blocks};
 ghost use Rattle.row.specs.Blocks.{blockMean};
 ghost use Rattle.classes.specs.declared.class.BlockClass.the-variants.{Gap};
+ghost use Rattle.prepared.specs.Sections.{CLASSES, SIDES};
 ghost use Rattle.prepared.specs.Inner.{classIn};
 ghost use Rattle.prepared.specs.Powers.{blockPower};
 ghost use Rattle.gaps.specs.Pairs.{above, strong, pairBlocks};
@@ -40,23 +42,23 @@ pub struct Candidate {
 fn paired_power(
     iq: &[f32],
     cyc: f64,
-    len: usize,
+    grid: Grid,
     work: &[f64],
-    blocks: usize,
     level: f64,
     sine: &[f64; 1025],
 ) -> f64
     requires { ⌜ Iq (now iq) ⌝ }
     requires { ⌜ now sine ≡ quarterSines ⌝ }
-    requires { ⌜ blocks ≡ Window.blocks (now iq) len ⌝ }
-    requires { ⌜ 3 * blocks ≤ length (now work) ⌝ }
-    ensures { λ r. ⌜ r ≡ sumOver (blockPower (blockMean (now (iq .entry)) cyc len)) minus-zero
-        (pairBlocks (above (classIn (now (work .entry)) (2 * blocks) Gap) (zAt (now (work .entry))) level) blocks) ⌝ }
+    requires { ⌜ grid .blocks ≡ blocks (now iq) (grid .window) ⌝ }
+    requires { ⌜ SIDES * grid .blocks ≤ length (now work) ⌝ }
+    ensures { λ r. ⌜ r ≡ sumOver (blockPower (blockMean (now (iq .entry)) cyc (grid .window))) minus-zero
+        (pairBlocks (above (classIn (now (work .entry)) (CLASSES * grid .blocks) Gap) (zAt (now (work .entry))) level) (grid .blocks)) ⌝ }
 {
+    let blocks = grid.blocks;
     let mut sum = -0.0;
     for b in 0..blocks {
         if in_pair(work, blocks, level, b) {
-            sum = sum + block_mean(iq, cyc, len, b, sine).norm_sqr();
+            sum = sum + block_mean(iq, cyc, grid.window, b, sine).norm_sqr();
         }
     }
     sum
@@ -65,26 +67,25 @@ fn paired_power(
 // Rust: `power` in second_carrier_evidence, with the offset it is of.
 fn measured(
     iq: &[f32],
-    fs: f64,
-    carrier: f64,
-    len: usize,
+    grid: Grid,
     work: &[f64],
-    blocks: usize,
     level: f64,
     f: f64,
     sine: &[f64; 1025],
 ) -> Candidate
     requires { ⌜ Iq (now iq) ⌝ }
     requires { ⌜ now sine ≡ quarterSines ⌝ }
-    requires { ⌜ len ≡ windowOf fs ⌝ }
-    requires { ⌜ blocks ≡ Window.blocks (now iq) len ⌝ }
-    requires { ⌜ 3 * blocks ≤ length (now work) ⌝ }
-    ensures { λ r. ⌜ (r .hz ≡ f) × (r .power ≡ powerAt (meanAt (now (iq .entry)) fs) carrier
-        (pairBlocks (above (classIn (now (work .entry)) (2 * blocks) Gap) (zAt (now (work .entry))) level) blocks) f) ⌝ }
+    requires { ⌜ grid .window ≡ windowOf (grid .fs) ⌝ }
+    requires { ⌜ grid .blocks ≡ blocks (now iq) (grid .window) ⌝ }
+    requires { ⌜ SIDES * grid .blocks ≤ length (now work) ⌝ }
+    ensures { λ r. ⌜ (r .hz ≡ f) × (r .power ≡ powerAt (meanAt (now (iq .entry)) (grid .fs)) (grid .carrier)
+        (pairBlocks (above (classIn (now (work .entry)) (CLASSES * grid .blocks) Gap) (zAt (now (work .entry))) level) (grid .blocks)) f) ⌝ }
 {
+    let carrier = grid.carrier;
+    let fs = grid.fs;
     Candidate {
         hz: f,
-        power: paired_power(iq, (carrier + f) / fs, len, work, blocks, level, sine),
+        power: paired_power(iq, (carrier + f) / fs, grid, work, level, sine),
     }
 }
 
@@ -98,11 +99,8 @@ fn stronger(best: Candidate, next: Candidate) -> Candidate
 // Rust: the loop over `[f0 - rate, f0 + rate]`.
 fn strongest(
     iq: &[f32],
-    fs: f64,
-    carrier: f64,
-    len: usize,
+    grid: Grid,
     work: &[f64],
-    blocks: usize,
     level: f64,
     f0: f64,
     rate: f64,
@@ -110,15 +108,15 @@ fn strongest(
 ) -> f64
     requires { ⌜ Iq (now iq) ⌝ }
     requires { ⌜ now sine ≡ quarterSines ⌝ }
-    requires { ⌜ len ≡ windowOf fs ⌝ }
-    requires { ⌜ blocks ≡ Window.blocks (now iq) len ⌝ }
-    requires { ⌜ 3 * blocks ≤ length (now work) ⌝ }
-    ensures { λ r. ⌜ r ≡ strongest (powerAt (meanAt (now (iq .entry)) fs) carrier
-        (pairBlocks (above (classIn (now (work .entry)) (2 * blocks) Gap) (zAt (now (work .entry))) level) blocks)) f0 rate ⌝ }
+    requires { ⌜ grid .window ≡ windowOf (grid .fs) ⌝ }
+    requires { ⌜ grid .blocks ≡ blocks (now iq) (grid .window) ⌝ }
+    requires { ⌜ SIDES * grid .blocks ≤ length (now work) ⌝ }
+    ensures { λ r. ⌜ r ≡ strongest (powerAt (meanAt (now (iq .entry)) (grid .fs)) (grid .carrier)
+        (pairBlocks (above (classIn (now (work .entry)) (CLASSES * grid .blocks) Gap) (zAt (now (work .entry))) level) (grid .blocks))) f0 rate ⌝ }
 {
-    let first = measured(iq, fs, carrier, len, work, blocks, level, f0, sine);
-    let under = measured(iq, fs, carrier, len, work, blocks, level, f0 - rate, sine);
-    let over = measured(iq, fs, carrier, len, work, blocks, level, f0 + rate, sine);
+    let first = measured(iq, grid, work, level, f0, sine);
+    let under = measured(iq, grid, work, level, f0 - rate, sine);
+    let over = measured(iq, grid, work, level, f0 + rate, sine);
     let best = stronger(stronger(first, under), over);
     best.hz
 }
@@ -126,28 +124,26 @@ fn strongest(
 // Rust: `offset_hz` in second_carrier_evidence.
 pub fn find_offset(
     iq: &[f32],
-    fs: f64,
-    carrier: f64,
-    len: usize,
+    grid: Grid,
     work: &[f64],
-    blocks: usize,
     reference: f64,
     pairs: Pairs,
     sine: &[f64; 1025],
 ) -> Offset
     requires { ⌜ Iq (now iq) ⌝ }
     requires { ⌜ now sine ≡ quarterSines ⌝ }
-    requires { ⌜ len ≡ windowOf fs ⌝ }
-    requires { ⌜ blocks ≡ Window.blocks (now iq) len ⌝ }
-    requires { ⌜ 3 * blocks ≤ length (now work) ⌝ }
-    ensures { λ r. ⌜ r ≡ offsetFrom (meanAt (now (iq .entry)) fs) carrier (fs ⊘ of (windowOf fs)) pairs
-        (pairBlocks (strong (classIn (now (work .entry)) (2 * blocks) Gap) (zAt (now (work .entry))) reference) blocks) ⌝ }
+    requires { ⌜ grid .window ≡ windowOf (grid .fs) ⌝ }
+    requires { ⌜ grid .blocks ≡ blocks (now iq) (grid .window) ⌝ }
+    requires { ⌜ SIDES * grid .blocks ≤ length (now work) ⌝ }
+    ensures { λ r. ⌜ r ≡ offsetFrom (meanAt (now (iq .entry)) (grid .fs)) (grid .carrier) (grid .fs ⊘ of (windowOf (grid .fs))) pairs
+        (pairBlocks (strong (classIn (now (work .entry)) (CLASSES * grid .blocks) Gap) (zAt (now (work .entry))) reference) (grid .blocks)) ⌝ }
 {
     if pairs.count == 0 {
         return Offset::Absent;
     }
-    let rate = fs / float::from_whole(len);
+    let fs = grid.fs;
+    let rate = fs / float::from_whole(grid.window);
     let f0 = pairs.sum.arg() * rate / TAU;
     let level = PAIR_FACTOR * reference;
-    Offset::Hz(strongest(iq, fs, carrier, len, work, blocks, level, f0, rate, sine))
+    Offset::Hz(strongest(iq, grid, work, level, f0, rate, sine))
 }

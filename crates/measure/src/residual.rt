@@ -1,13 +1,23 @@
-// The residual check: what taking an estimate off would leave of the strong sender, over the level of its neighbour.
+// The residual check: what subtracting an estimate would leave of the strong sender, over the level of its neighbour.
+// Rust: ratio_db and residual_check, lines 471 to 511 of cancel.rs; residual_check goes in this order:
+//
+//     483 to 485, 492   the blocks' means and their classes       prepared::prepare
+//     486 to 491        the fits subtracted from the means        prepared::left
+//     493 to 502        the powers of each class                  prepared::powers
+//     503 to 510        the levels and the answer                 here
 use classes::BlockClass;
 use constants::CLEAN_EDGE_OVER_NEIGHBOUR_DB;
 use constants::CLEAN_INTERIOR_OVER_NEIGHBOUR_DB;
 use constants::MIN_POSITIVE;
 use constants::NEIGHBOUR_PERCENTILE;
-use prepared::left::lessen;
+use prepared::left::subtract_from_means;
 use prepared::powers::Level;
 use prepared::powers::level_of;
+use prepared::prepare::Grid;
 use prepared::prepare::prepare;
+use prepared::sections::CLASSES;
+use prepared::sections::POWERS;
+use prepared::sections::ZLEFT;
 use rank::Percentile;
 ghost use mathlib.Core.Path.{_≡_};
 ghost use Prim.Native.Nat.{_*_, _≤_};
@@ -17,6 +27,7 @@ ghost use Rattle.row.specs.Samples.{Iq};
 ghost use Rattle.row.specs.Window.{Rate, windowOf, stepBlocks};
 ghost use Rattle.elements.specs.Element.{ELEMENT, elementsIn};
 ghost use Rattle.fits.specs.List.{FIT, fitsIn};
+ghost use Rattle.prepared.specs.Sections.{SIDES, RESIDUAL_END};
 ghost use Rattle.measure.specs.Residual.{ratioDb, floored, residualCheckOf, cleanOf};
 ghost use Rattle.measure.specs.Inner.{figuresFrom, residualIn};
 
@@ -39,32 +50,23 @@ impl ResidualCheck {
     }
 }
 
-// Rust: ratio_db.
+// Rust: ratio_db, with `nb`'s floor under the lower side: applied here, no number is looked at that is not there.
 fn ratio_db(num: Percentile, den: Percentile) -> f64
-    ensures { λ r. ⌜ r ≡ ratioDb num den ⌝ }
+    ensures { λ r. ⌜ r ≡ ratioDb num (floored den) ⌝ }
 {
     let infinity = 1.0 / 0.0;
     let Percentile::Value(n) = num else {
         return infinity;
     };
-    let Percentile::Value(d) = den else {
+    let Percentile::Value(v) = den else {
         return infinity;
     };
+    let d = float::max(v, MIN_POSITIVE);
     if d > 0.0 {
         10.0 * logarithm::log10(float::max(n, MIN_POSITIVE) / d)
     } else {
         infinity
     }
-}
-
-// Rust: `map(|v| v.max(f64::MIN_POSITIVE))`.
-fn floored_at(level: Percentile) -> Percentile
-    ensures { λ r. ⌜ r ≡ floored level ⌝ }
-{
-    let Percentile::Value(v) = level else {
-        return Percentile::Nothing;
-    };
-    Percentile::Value(float::max(v, MIN_POSITIVE))
 }
 
 // Rust: the ResidualCheck at the end of residual_check.
@@ -74,43 +76,42 @@ fn figures(edge: Level, interior: Level, gap: Level) -> ResidualCheck
     let e = edge.value;
     let i = interior.value;
     let g = gap.value;
-    let neighbour = floored_at(g);
     ResidualCheck {
-        edge_over_neighbour_db: ratio_db(e, neighbour),
-        interior_over_neighbour_db: ratio_db(i, neighbour),
+        edge_over_neighbour_db: ratio_db(e, g),
+        interior_over_neighbour_db: ratio_db(i, g),
         edge_blocks: edge.count,
         interior_blocks: interior.count,
         gap_blocks: gap.count,
     }
 }
 
-// Rust: residual_check, past the block means and their classes, which stand in a prepared work slice and stay there.
+// Past the block means and their classes, which stand in a prepared work slice and stay there.
 pub fn residual(
     work: &mut [f64],
-    blocks: usize,
-    fs: f64,
+    grid: Grid,
     fits: &[f64],
     count: usize,
     sine: &[f64; 1025],
 ) -> ResidualCheck
     requires { ⌜ now sine ≡ quarterSines ⌝ }
-    requires { ⌜ Rate fs ⌝ }
-    requires { ⌜ blocks * windowOf fs ≤ 1048576 ⌝ }
-    requires { ⌜ 7 * blocks ≤ length (now work) ⌝ }
+    requires { ⌜ grid .window ≡ windowOf (grid .fs) ⌝ }
+    requires { ⌜ grid .blocks * grid .window ≤ 1048576 ⌝ }
+    requires { ⌜ RESIDUAL_END * grid .blocks ≤ length (now work) ⌝ }
     requires { ⌜ FIT * count ≤ length (now fits) ⌝ }
-    ensures { λ r. ⌜ (r ≡ residualIn (now (work .entry)) blocks fs (fitsIn (now (fits .entry)) count))
-        × (take (3 * blocks) (now (work .exit)) ≡ take (3 * blocks) (now (work .entry))) ⌝ }
+    ensures { λ r. ⌜ (r ≡ residualIn (now (work .entry)) (grid .blocks) (grid .fs) (fitsIn (now (fits .entry)) count))
+        × (take (SIDES * grid .blocks) (now (work .exit)) ≡ take (SIDES * grid .blocks) (now (work .entry))) ⌝ }
 {
-    let len = 8 * row::edge_step(fs);
-    lessen(work, blocks, fits, count, fs, len, sine);
-    let at = 2 * blocks;
-    let out = 6 * blocks;
-    let edge = level_of(work, at, at, blocks, BlockClass::Edge, out, 0.5);
-    let interior = level_of(work, at, at, blocks, BlockClass::Interior, out, 0.5);
+    let blocks = grid.blocks;
+    subtract_from_means(work, blocks, fits, count, grid.fs, grid.window, sine);
+    let at = ZLEFT * blocks;
+    let codes = CLASSES * blocks;
+    let out = POWERS * blocks;
+    let edge = level_of(work, at, codes, blocks, BlockClass::Edge, out, 0.5);
+    let interior = level_of(work, at, codes, blocks, BlockClass::Interior, out, 0.5);
     let gap = level_of(
         work,
         at,
-        at,
+        codes,
         blocks,
         BlockClass::Gap,
         out,
@@ -139,7 +140,7 @@ pub fn residual_check(
     requires { ⌜ 4 * stepBlocks (now iq) fs ≤ length (now work) ⌝ }
     ensures { λ r. ⌜ r ≡ residualCheckOf (now (iq .entry)) fs carrier (fitsIn (now (fits .entry)) «fit_count») (elementsIn (now (elements .entry)) «element_count») ⌝ }
 {
-    let blocks = prepare(
+    let grid = prepare(
         iq,
         fs,
         carrier,
@@ -150,5 +151,5 @@ pub fn residual_check(
         work,
         sine,
     );
-    residual(work, blocks, fs, fits, fit_count, sine)
+    residual(work, grid, fits, fit_count, sine)
 }

@@ -26,29 +26,29 @@ use Rattle.synth.specs.Span.{spanOf}
 use Rattle.synth.specs.Baseband.{synthAt}
 use Rattle.prepared.proofs.Parts.{zAt-same, take-same, put-at}
 use Rattle.prepared.specs.Inner.{Lessened}
-use Rattle.prepared.specs.Left.{takenFrom, lessSpan, lessFit, lessFits}
+use Rattle.prepared.specs.Left.{lessFrom, lessSpan, lessFit, lessFits}
 
 -- ---- the samples of a block: before the loop, a turn of it, and after it
 module _ (fs : Float) (len : ℕ) (f : ElementFit) (z : Complex) (a : ℕ) where
-  pub taken-none : z ≡ takenFrom fs len f z a 0
-  unfolding takenFrom
-  taken-none = refl
+  pub lessFrom-none : z ≡ lessFrom fs len f z a 0
+  unfolding lessFrom
+  lessFrom-none = refl
 
-  pub taken-turn : (n : ℕ) (left s q r : Complex) (d : Float)
-      → left ≡ takenFrom fs len f z a n → s ≡ synthAt fs f (a + n) → q ≡ cDiv s d → d ≡ of len → r ≡ cSub left q → r ≡ takenFrom fs len f z a (n + 1)
-  unfolding takenFrom
-  taken-turn n left s q r d p e h g i = rw (add-one, i, p, h, e, g)
+  pub lessFrom-turn : (n : ℕ) (left s q r : Complex) (d : Float)
+      → left ≡ lessFrom fs len f z a n → s ≡ synthAt fs f (a + n) → q ≡ cDiv s d → d ≡ of len → r ≡ cSub left q → r ≡ lessFrom fs len f z a (n + 1)
+  unfolding lessFrom
+  lessFrom-turn n left s q r d p e h g i = rw (add-one, i, p, h, e, g)
 
-  pub taken-done : (n k : ℕ) (left : Complex) → left ≡ takenFrom fs len f z a k → k ≤ n → n ≤ k → left ≡ takenFrom fs len f z a n
-  taken-done n k left p h g = let all : k ≡ n = omega arith in rw all at p
+  pub lessFrom-done : (n k : ℕ) (left : Complex) → left ≡ lessFrom fs len f z a k → k ≤ n → n ≤ k → left ≡ lessFrom fs len f z a n
+  lessFrom-done n k left p h g = let all : k ≡ n = omega arith in rw all at p
 
 -- ---- the samples that a span covers: some of them, and none
 module _ (fs : Float) (len : ℕ) (f : ElementFit) (s : Span) (from : ℕ) (z : Complex) where
-  pub span-some : (a e : ℕ) (r : Complex) → a ≡ max (s .lo) from → e ≡ min (s .hi) (from + len) → r ≡ takenFrom fs len f z a (e - a) → r ≡ lessSpan fs len f s from z
+  pub span-some : (a e : ℕ) (r : Complex) → a ≡ max (s .lo) from → e ≡ min (s .hi) (from + len) → r ≡ lessFrom fs len f z a (e - a) → r ≡ lessSpan fs len f s from z
   span-some a e r p q h = rw (← p, ← q) h
 
   pub span-none : (a e : ℕ) → a ≡ max (s .lo) from → e ≡ min (s .hi) (from + len) → e ≤ a → z ≡ lessSpan fs len f s from z
-  span-none a e p q h = let none : e - a ≡ 0 = omega arith in rw (← p, ← q, none) (taken-none fs len f z a)
+  span-none a e p q h = let none : e - a ≡ 0 = omega arith in rw (← p, ← q, none) (lessFrom-none fs len f z a)
 
 -- ---- the blocks of a span
 

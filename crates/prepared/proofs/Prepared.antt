@@ -6,6 +6,7 @@ use mathlib.Core.Path.{_≡_, _∙_}
 use mathlib.Core.List.{List}
 use lib.ListN.{length}
 use lib.Ieee.{Float}
+use Rattle.float.specs.Ops.{_⊘_}
 use borrow.Rule.Slice.PartMut.{midOf, putMid, take-put, same-len-mid}
 use Rattle.complex.specs.declared.value.Complex.{Complex}
 use Rattle.complex.specs.Rows.{zFill}
@@ -19,6 +20,8 @@ use Rattle.row.proofs.Means.{blocks-short}
 use Rattle.classes.specs.declared.class.BlockClass.{BlockClass}
 use Rattle.classes.specs.Class.{codesOf}
 use Rattle.classes.proofs.Classes.{codes-length, code-at}
+use Rattle.prepared.specs.declared.prepare.Grid.{Grid}
+use Rattle.prepared.specs.Grid.{gridOf}
 use Rattle.prepared.specs.Inner.{Prepared}
 use Rattle.prepared.proofs.Parts.{zAt-below, put-at}
 
@@ -70,10 +73,12 @@ module _ (w v ys : List Float) (z : ℕ → Complex) (class : ℕ → BlockClass
         room = omega (arith, same-len-mid (2 * blocks) (3 * blocks - 2 * blocks) v ys size, long);
       }
 
-pub made : (iq : List Float) (fs cyc : Float) (step blocks : ℕ) (w v ys : List Float) (class : ℕ → BlockClass)
-    → Counted iq fs step blocks w → step ≡ stepOf fs → v ≡ zFill w 0 (blockMean iq cyc (8 * step)) (window.blocks iq (8 * step)) → ys ≡ codesOf class (window.blocks iq (windowOf fs))
-    → length ys ≡ length (midOf (2 * blocks) (3 * blocks - 2 * blocks) v)
-    → (blocks ≡ window.blocks iq (windowOf fs)) × Prepared (putMid (2 * blocks) (3 * blocks - 2 * blocks) v ys) (blockMean iq cyc (windowOf fs)) class (window.blocks iq (windowOf fs))
-made iq fs cyc step blocks w v ys class k s e c size =
+pub made : (iq : List Float) (fs carrier : Float) (step blocks : ℕ) (w v ys : List Float) (class : ℕ → BlockClass)
+    → Counted iq fs step blocks w → step ≡ stepOf fs → v ≡ zFill w 0 (blockMean iq (carrier ⊘ fs) (8 * step)) (window.blocks iq (8 * step))
+    → ys ≡ codesOf class (window.blocks iq (windowOf fs)) → length ys ≡ length (midOf (2 * blocks) (3 * blocks - 2 * blocks) v)
+    → (_≡_ {A = Grid} (record { fs = fs; carrier = carrier; window = 8 * step; blocks = blocks }) (gridOf iq fs carrier))
+    × Prepared (putMid (2 * blocks) (3 * blocks - 2 * blocks) v ys) (blockMean iq (carrier ⊘ fs) (windowOf fs)) class (window.blocks iq (windowOf fs))
+made iq fs carrier step blocks w v ys class k s e c size =
     let all = k .blocks-are in
-    (all, rw all (prepared w v ys (blockMean iq cyc (windowOf fs)) class (window.blocks iq (windowOf fs)) (rw s at e) (rw all at (k .room)) c (rw all at size)))
+    let z = blockMean iq (carrier ⊘ fs) (windowOf fs) in
+    (rw (s, all), rw all (prepared w v ys z class (window.blocks iq (windowOf fs)) (rw s at e) (rw all at (k .room)) c (rw all at size)))

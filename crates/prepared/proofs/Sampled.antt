@@ -18,7 +18,7 @@ use Rattle.fits.specs.declared.fit.ElementFit.{ElementFit}
 use Rattle.synth.specs.Span.{spanOf}
 use Rattle.synth.specs.Baseband.{synthAt}
 use Rattle.synth.proofs.Spans.{span-ordered}
-use Rattle.prepared.specs.Left.{takenFrom, lessFit, lessFits}
+use Rattle.prepared.specs.Left.{lessFrom, lessFit, lessFits}
 
 -- `for k in lo..hi { z[k / len] -= synth_baseband(f, fs, k) / len as f64; }`, its first n turns
 unfoldable pub sampled : Float → ℕ → ElementFit → (ℕ → Complex) → ℕ → ℕ → ℕ → Complex
@@ -73,8 +73,8 @@ module _ (lo c d k : ℕ) where
 
 -- a fit: the samples of block b among the first n
 by-block : (fs : Float) (len : ℕ) (f : ElementFit) (z : ℕ → Complex) (lo n b : ℕ) → 0 < len
-    → sampled fs len f z lo n b ≡ takenFrom fs len f (z b) (max lo (b * len)) (min (lo + n) (b * len + len) - max lo (b * len))
-unfolding sampled takenFrom
+    → sampled fs len f z lo n b ≡ lessFrom fs len f (z b) (max lo (b * len)) (min (lo + n) (b * len + len) - max lo (b * len))
+unfolding sampled lessFrom
 by-block fs len f z lo zero b p =
     rw (nothing-left (min (lo + 0) (b * len + len)) (max lo (b * len)) (le-trans (min-le-left (lo + 0) (b * len + len)) (le-trans (le-of-eq (add-zero lo)) (le-max-left lo (b * len)))))
 by-block fs len f z lo (suc n) b p = rw (add-suc lo n) (go (eqb ((lo + n) / len) b) refl (by-block fs len f z lo n b p))
@@ -89,9 +89,9 @@ by-block fs len f z lo (suc n) b p = rw (add-suc lo n) (go (eqb ((lo + n) / len)
     same o (yes l) = before lo (b * len) (b * len + len) k l
     same o (no l) = past lo (b * len) (b * len + len) k (outside len k b p o (omega arith))
 
-    go : (t : Bool) → eqb (k / len) b ≡ t → sampled fs len f z lo n b ≡ takenFrom fs len f (z b) a (min k (b * len + len) - a)
+    go : (t : Bool) → eqb (k / len) b ≡ t → sampled fs len f z lo n b ≡ lessFrom fs len f (z b) a (min k (b * len + len) - a)
         → cond t (cSub (sampled fs len f z lo n b) (cDiv (synthAt fs f k) (of len))) (sampled fs len f z lo n b)
-        ≡ takenFrom fs len f (z b) a (min (suc k) (b * len + len) - a)
+        ≡ lessFrom fs len f (z b) a (min (suc k) (b * len + len) - a)
     go true e less =
         let here = inside len k b p (eqb-true (k / len) b e) in
         rw (

@@ -12,12 +12,13 @@ use Rattle.complex.specs.Value.{cNormSqr}
 use Rattle.complex.specs.Rows.{zAt}
 use Rattle.classes.specs.declared.class.BlockClass.{BlockClass}
 use Rattle.classes.specs.Class.{codeOf}
+use Rattle.prepared.specs.Sections.{CLASSES, LEFT, ZLEFT}
 
 -- The work slice of so many blocks: first their means, as complex numbers, then the number of each one's class; what
 -- follows is free for a measure.
 pub record Prepared (w : List Float) (z : ℕ → Complex) (c : ℕ → BlockClass) (blocks : ℕ) : Type 0 where
   pub mean : (b : ℕ) → b < blocks → zAt w b ≡ z b
-  pub class : (b : ℕ) → b < blocks → getD w (2 * blocks + b) nan ≡ codeOf (c b)
+  pub class : (b : ℕ) → b < blocks → getD w (CLASSES * blocks + b) nan ≡ codeOf (c b)
   pub room : 32 * blocks ≤ length w
 
 -- whether block b's class has the number `code`, in a slice that holds the numbers of the classes from number `at` on
@@ -35,7 +36,7 @@ powerIn w at b = cNormSqr (zAt w (at + b))
 abbrev pub powersIn : List Float → ℕ → ℕ → ℕ → BlockClass → List Float
 powersIn w means codes blocks c = picked (classIn w codes c) (powerIn w means) blocks
 
--- what is left of the means stands from complex number 2 * blocks on, and all before it is as it was
+-- what is left of the means stands in its section, and all before it is as it was
 pub record Lessened (w v : List Float) (left : ℕ → Complex) (blocks : ℕ) : Type 0 where
-  pub kept : take (4 * blocks) v ≡ take (4 * blocks) w
-  pub mean : (b : ℕ) → b < blocks → zAt v (2 * blocks + b) ≡ left b
+  pub kept : take (LEFT * blocks) v ≡ take (LEFT * blocks) w
+  pub mean : (b : ℕ) → b < blocks → zAt v (ZLEFT * blocks + b) ≡ left b

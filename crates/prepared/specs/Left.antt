@@ -13,13 +13,13 @@ use Rattle.synth.specs.Span.{spanOf}
 use Rattle.synth.specs.Baseband.{synthAt}
 
 -- A fit's synthesis at the n samples from sample a on, each over len, taken off a block's mean one by one
-unfoldable pub takenFrom : Float → ℕ → ElementFit → Complex → ℕ → ℕ → Complex
-takenFrom fs len f z a zero = z
-takenFrom fs len f z a (suc n) = cSub (takenFrom fs len f z a n) (cDiv (synthAt fs f (a + n)) (of len))
+unfoldable pub lessFrom : Float → ℕ → ElementFit → Complex → ℕ → ℕ → Complex
+lessFrom fs len f z a zero = z
+lessFrom fs len f z a (suc n) = cSub (lessFrom fs len f z a n) (cDiv (synthAt fs f (a + n)) (of len))
 
 -- the same at those of the len samples from sample `from` on that a span covers
 abbrev pub lessSpan : Float → ℕ → ElementFit → Span → ℕ → Complex → Complex
-lessSpan fs len f s from z = let a = max (s .lo) from in takenFrom fs len f z a (min (s .hi) (from + len) - a)
+lessSpan fs len f s from z = let a = max (s .lo) from in lessFrom fs len f z a (min (s .hi) (from + len) - a)
 
 -- and at the samples of block b that the fit's span covers, the span cut to the whole blocks
 unfoldable pub lessFit : Float → ℕ → ℕ → ElementFit → ℕ → Complex → Complex

@@ -1,5 +1,7 @@
-// What is left of the blocks' means once the fits are taken off them. Rust: the loop over the fits in residual_check,
-// which finds each sample's block by a division; here each block of a span is done at one go.
+// What is left of the blocks' means once the fits are subtracted. Rust: lines 486 to 491 of cancel.rs, the loop over the
+// fits in residual_check, which finds each sample's block by a division; here each block of a span is done at one go.
+use crate::sections::LEFT;
+use crate::sections::POWERS;
 use complex::Complex;
 use fits::ElementFit;
 use fits::fit_at;
@@ -15,11 +17,12 @@ ghost use Rattle.lists.specs.Fill.{fill};
 ghost use Rattle.trig.specs.Circle.{quarterSines};
 ghost use Rattle.complex.specs.Rows.{zAt};
 ghost use Rattle.fits.specs.List.{FIT, fitsIn};
-ghost use Rattle.prepared.specs.Left.{takenFrom, lessSpan, lessFit, lessFits};
+ghost use Rattle.prepared.specs.Sections.{LEFT, POWERS};
+ghost use Rattle.prepared.specs.Left.{lessFrom, lessSpan, lessFit, lessFits};
 ghost use Rattle.prepared.specs.Inner.{Lessened};
 
-// A fit's synthesis at n samples taken off a mean of len.
-fn taken_from(
+// A mean of len samples less a fit's synthesis at n of them.
+fn subtract_from(
     z: Complex,
     f: ElementFit,
     fs: f64,
@@ -31,7 +34,7 @@ fn taken_from(
     requires { ⌜ now sine ≡ quarterSines ⌝ }
     requires { ⌜ len ≤ 1048576 ⌝ }
     requires { ⌜ a + n ≤ 1048576 ⌝ }
-    ensures { λ r. ⌜ r ≡ takenFrom fs len f z a n ⌝ }
+    ensures { λ r. ⌜ r ≡ lessFrom fs len f z a n ⌝ }
 {
     let d = float::exact(len);
     let mut left = z;
@@ -48,8 +51,8 @@ fn most(a: usize, b: usize) -> usize
     if a <= b { b } else { a }
 }
 
-// Taken off at those of the len samples from `from` on that a span covers.
-fn less_span(
+// The same at those of the len samples from `from` on that a span covers.
+fn subtract_span(
     z: Complex,
     f: ElementFit,
     s: Span,
@@ -66,14 +69,21 @@ fn less_span(
     let a = most(s.lo, from);
     let e = least(s.hi, past);
     if a < e {
-        taken_from(z, f, fs, len, a, e - a, sine)
+        subtract_from(z, f, fs, len, a, e - a, sine)
     } else {
         z
     }
 }
 
-// One fit taken off the means of a row. Rust: the body of the loop over the fits.
-fn less_fit(row: &mut [f64], blocks: usize, f: ElementFit, fs: f64, len: usize, sine: &[f64; 1025])
+// The means of a row less one fit. Rust: the body of the loop over the fits.
+fn subtract_fit(
+    row: &mut [f64],
+    blocks: usize,
+    f: ElementFit,
+    fs: f64,
+    len: usize,
+    sine: &[f64; 1025],
+)
     requires { ⌜ now sine ≡ quarterSines ⌝ }
     requires { ⌜ 0 < len ⌝ }
     requires { ⌜ blocks * len ≤ 1048576 ⌝ }
@@ -86,14 +96,14 @@ fn less_fit(row: &mut [f64], blocks: usize, f: ElementFit, fs: f64, len: usize, 
     let mut from = b * len;
     while from < hi {
         let z = complex::get(row, b);
-        complex::put(row, b, less_span(z, f, s, fs, from, len, sine));
+        complex::put(row, b, subtract_span(z, f, s, fs, from, len, sine));
         b = b + 1;
         from = from + len;
     }
 }
 
-// All fits of a list taken off, in order.
-fn less_fits(
+// Less all fits of a list, in order.
+fn subtract_fits(
     row: &mut [f64],
     blocks: usize,
     fits: &[f64],
@@ -111,23 +121,23 @@ fn less_fits(
 {
     for k in 0..count {
         let f = fit_at(fits, k);
-        less_fit(row, blocks, f, fs, len, sine);
+        subtract_fit(row, blocks, f, fs, len, sine);
     }
 }
 
-// The means at the start of the work slice, copied to the numbers from 4 * blocks on.
+// The means at the start of the work slice, copied to where what is left of them will stand.
 fn copy_means(work: &mut [f64], blocks: usize)
-    requires { ⌜ 6 * blocks ≤ length (now work) ⌝ }
-    ensures { λ _. ⌜ now (work .exit) ≡ fill (now (work .entry)) (4 * blocks) (λ i. getD (now (work .entry)) i nan) (2 * blocks) ⌝ }
+    requires { ⌜ POWERS * blocks ≤ length (now work) ⌝ }
+    ensures { λ _. ⌜ now (work .exit) ≡ fill (now (work .entry)) (LEFT * blocks) (λ i. getD (now (work .entry)) i nan) (2 * blocks) ⌝ }
 {
-    let o = 4 * blocks;
+    let o = LEFT * blocks;
     for i in 0..2 * blocks {
         work[o + i] = work[i];
     }
 }
 
-// What is left of the means at the start of the work slice, as complex numbers from number 2 * blocks on.
-pub fn lessen(
+// What is left of the means at the start of the work slice, in its section.
+pub fn subtract_from_means(
     work: &mut [f64],
     blocks: usize,
     fits: &[f64],
@@ -139,12 +149,12 @@ pub fn lessen(
     requires { ⌜ now sine ≡ quarterSines ⌝ }
     requires { ⌜ 0 < len ⌝ }
     requires { ⌜ blocks * len ≤ 1048576 ⌝ }
-    requires { ⌜ 6 * blocks ≤ length (now work) ⌝ }
+    requires { ⌜ POWERS * blocks ≤ length (now work) ⌝ }
     requires { ⌜ FIT * count ≤ length (now fits) ⌝ }
     ensures { λ _. ⌜ Lessened (now (work .entry)) (now (work .exit)) (λ b. lessFits fs len blocks (fitsIn (now (fits .entry)) count) b (zAt (now (work .entry)) b)) blocks ⌝ }
 {
     copy_means(work, blocks);
-    let from = 4 * blocks;
-    let past = 6 * blocks;
-    less_fits(&mut work[from..past], blocks, fits, count, fs, len, sine);
+    let from = LEFT * blocks;
+    let past = POWERS * blocks;
+    subtract_fits(&mut work[from..past], blocks, fits, count, fs, len, sine);
 }

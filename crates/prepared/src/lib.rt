@@ -3,3 +3,4 @@
 pub mod left;
 pub mod powers;
 pub mod prepare;
+pub mod sections;

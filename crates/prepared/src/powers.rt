@@ -1,4 +1,5 @@
-// The powers of the blocks of one class, one after the other in the work slice.
+// The powers of the blocks of one class, one after the other in the work slice, and a percentile of them. Rust: lines 493
+// to 502 of cancel.rs in residual_check, 528 to 531 in second_carrier_evidence, with the `percentile` of each list.
 use classes::BlockClass;
 use rank::Percentile;
 use rank::select::percentile;
@@ -10,9 +11,8 @@ ghost use Rattle.lists.specs.Those.{keep};
 ghost use Rattle.rank.specs.Select.{percentileOf};
 ghost use Rattle.prepared.specs.Inner.{classIn, powerIn, powersIn};
 
-// Rust: the `push`es of a class in residual_check, and `interior` in second_carrier_evidence. The blocks' means stand
-// from complex number `means` on, the numbers of their classes from `codes` on; the powers go to `out` and the numbers
-// after it. The answer is how many they are.
+// Rust: the `push`es of a class, and `interior`. The blocks' means stand from complex number `means` on, the numbers of
+// their classes from `codes` on; the powers go to `out` and the numbers after it. The answer is how many they are.
 pub fn gather(
     work: &mut [f64],
     means: usize,

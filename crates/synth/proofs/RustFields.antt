@@ -13,7 +13,7 @@ use Rattle.row.specs.Blocks.{rotorOf}
 use Rattle.fits.specs.declared.fit.ElementFit.{ElementFit}
 use Rattle.synth.specs.Span.{spanOf}
 use Rattle.synth.specs.Baseband.{envelopeOf, synthAt}
-use Rattle.synth.specs.Removal.{lessSingle, sentAt, takenBy, subtracted}
+use Rattle.synth.specs.Removal.{lessSingle, sentAt, lessBy, subtracted}
 use Rattle.synth.specs.RustFields.{rustOf}
 
 module _ (fs : Float) (f g : ElementFit) (same : rustOf f ≡ rustOf g) where
@@ -35,9 +35,9 @@ module _ (fs : Float) (f g : ElementFit) (same : rustOf f ≡ rustOf g) where
   unfolding sentAt
   sent-alike cyc k = ap (λ z. cMul z (rotorOf cyc k)) (synth-alike k)
 
-  pub taken-alike : (cyc : Float) (buf : List Float) → takenBy fs cyc f buf ≡ takenBy fs cyc g buf
-  unfolding takenBy
-  taken-alike cyc buf =
+  pub lessFrom-alike : (cyc : Float) (buf : List Float) → lessBy fs cyc f buf ≡ lessBy fs cyc g buf
+  unfolding lessBy
+  lessFrom-alike cyc buf =
       let lo = spanOf fs (samples buf) g .lo in
       rw (span-alike (samples buf)) (zFill-cong buf lo _ _ _ (λ j h. ap (lessSingle (zAt buf (lo + j))) (sent-alike cyc (lo + j))))
 
@@ -50,4 +50,4 @@ subtracted-alike fs cyc buf (f ∷ fits) [] same = let z : _≡_ {A = ℕ} 0 1 =
 subtracted-alike fs cyc buf (f ∷ fits) (g ∷ others) same =
     let first : rustOf f ≡ rustOf g = cc in
     let rest : map rustOf fits ≡ map rustOf others = cc in
-    ap (λ b. subtracted fs cyc b fits) (taken-alike fs f g first cyc buf) ∙ subtracted-alike fs cyc (takenBy fs cyc g buf) fits others rest
+    ap (λ b. subtracted fs cyc b fits) (lessFrom-alike fs f g first cyc buf) ∙ subtracted-alike fs cyc (lessBy fs cyc g buf) fits others rest

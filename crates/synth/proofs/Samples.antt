@@ -13,17 +13,17 @@ use Rattle.complex.specs.Rows.{zAt}
 use Rattle.row.specs.Window.{samples}
 use Rattle.fits.specs.declared.fit.ElementFit.{ElementFit}
 use Rattle.synth.specs.Span.{spanOf, covers}
-use Rattle.synth.specs.Removal.{takenAt, takenBy, subtracted, leftAt}
+use Rattle.synth.specs.Removal.{lessAt, lessBy, subtracted, leftAt}
 use Rattle.synth.proofs.Spans.{span-ordered, span-inside}
 use Rattle.synth.proofs.Parts.{zAt-zFill-below, zAt-zFill-above, zAt-zFill-from}
-use Rattle.synth.proofs.Removals.{length-taken}
+use Rattle.synth.proofs.Removals.{length-less}
 
 module _ (fs cyc : Float) where
   -- one fit
-  pub taken-sample : (f : ElementFit) (buf : List Float) (k : ℕ)
-      → zAt (takenBy fs cyc f buf) k ≡ cond (covers (spanOf fs (samples buf) f) k) (takenAt fs cyc f k (zAt buf k)) (zAt buf k)
-  unfolding takenBy
-  taken-sample f buf k = go (leb lo k) (ltb k hi) refl refl
+  pub less-sample : (f : ElementFit) (buf : List Float) (k : ℕ)
+      → zAt (lessBy fs cyc f buf) k ≡ cond (covers (spanOf fs (samples buf) f) k) (lessAt fs cyc f k (zAt buf k)) (zAt buf k)
+  unfolding lessBy
+  less-sample f buf k = go (leb lo k) (ltb k hi) refl refl
     where
       lo : ℕ
       lo = spanOf fs (samples buf) f .lo
@@ -31,7 +31,7 @@ module _ (fs cyc : Float) where
       hi : ℕ
       hi = spanOf fs (samples buf) f .hi
 
-      go : (t u : Bool) → leb lo k ≡ t → ltb k hi ≡ u → zAt (takenBy fs cyc f buf) k ≡ cond (t && u) (takenAt fs cyc f k (zAt buf k)) (zAt buf k)
+      go : (t u : Bool) → leb lo k ≡ t → ltb k hi ≡ u → zAt (lessBy fs cyc f buf) k ≡ cond (t && u) (lessAt fs cyc f k (zAt buf k)) (zAt buf k)
       go false u below e = zAt-zFill-below buf lo _ (hi - lo) k (leb-false lo k below)
       go true false from above =
           let ordered : lo ≤ hi = span-ordered fs (samples buf) f in
@@ -43,18 +43,18 @@ module _ (fs cyc : Float) where
           let after : lo ≤ k = leb-true lo k from in
           let before : k < hi = ltb-true k hi inside in
           let at : lo + (k - lo) ≡ k = omega arith in
-          ap (λ i. zAt (takenBy fs cyc f buf) i) (sym at)
+          ap (λ i. zAt (lessBy fs cyc f buf) i) (sym at)
           ∙ zAt-zFill-from buf lo _ (hi - lo) (k - lo) (omega arith) (omega arith)
-          ∙ ap (λ i. takenAt fs cyc f i (zAt buf i)) at
+          ∙ ap (λ i. lessAt fs cyc f i (zAt buf i)) at
 
   -- all fits, in order
   pub subtracted-at : (buf : List Float) (fits : List ElementFit) (k : ℕ) → zAt (subtracted fs cyc buf fits) k ≡ leftAt fs cyc (samples buf) fits k (zAt buf k)
   unfolding subtracted leftAt
   subtracted-at buf [] k = refl
   subtracted-at buf (f ∷ fits) k =
-      subtracted-at (takenBy fs cyc f buf) fits k
-      ∙ ap (λ n. leftAt fs cyc (n / 2) fits k (zAt (takenBy fs cyc f buf) k)) (length-taken fs cyc f buf)
-      ∙ ap (λ z. leftAt fs cyc (samples buf) fits k z) (taken-sample f buf k)
+      subtracted-at (lessBy fs cyc f buf) fits k
+      ∙ ap (λ n. leftAt fs cyc (n / 2) fits k (zAt (lessBy fs cyc f buf) k)) (length-less fs cyc f buf)
+      ∙ ap (λ z. leftAt fs cyc (samples buf) fits k z) (less-sample f buf k)
 
   left-outside : (n : ℕ) (fits : List ElementFit) (k : ℕ) (x : Complex) → ((f : ElementFit) → List·Memᴰ f fits → covers (spanOf fs n f) k ≡ false) → leftAt fs cyc n fits k x ≡ x
   unfolding leftAt

@@ -24,23 +24,23 @@ module _ (fs cyc : Float) where
   sentAt f k = cMul (synthAt fs f k) (rotorOf cyc k)
 
   -- sample k, where it is x, less that
-  abbrev pub takenAt : ElementFit → ℕ → Complex → Complex
-  takenAt f k x = lessSingle x (sentAt f k)
+  abbrev pub lessAt : ElementFit → ℕ → Complex → Complex
+  lessAt f k x = lessSingle x (sentAt f k)
 
   -- one fit: the samples of its span are replaced, and all else is as it was
-  unfoldable pub takenBy : ElementFit → List Float → List Float
-  takenBy f buf =
+  unfoldable pub lessBy : ElementFit → List Float → List Float
+  lessBy f buf =
       let s = spanOf fs (samples buf) f in
-      zFill buf (s .lo) (λ j. takenAt f (s .lo + j) (zAt buf (s .lo + j))) (s .hi - s .lo)
+      zFill buf (s .lo) (λ j. lessAt f (s .lo + j) (zAt buf (s .lo + j))) (s .hi - s .lo)
 
   -- all fits, in order
   unfoldable pub subtracted : List Float → List ElementFit → List Float
   subtracted buf [] = buf
-  subtracted buf (f ∷ fits) = subtracted (takenBy f buf) fits
+  subtracted buf (f ∷ fits) = subtracted (lessBy f buf) fits
 
   -- ---- what the definition comes to, sample by sample: `subtracted-at` of `proofs/Samples.antt` proves it
 
   -- sample k of n, where it is x, after all fits: each whose span covers it takes its synthesis off, in order
   unfoldable pub leftAt : ℕ → List ElementFit → ℕ → Complex → Complex
   leftAt n [] k x = x
-  leftAt n (f ∷ fits) k x = leftAt n fits k (cond (covers (spanOf fs n f) k) (takenAt f k x) x)
+  leftAt n (f ∷ fits) k x = leftAt n fits k (cond (covers (spanOf fs n f) k) (lessAt f k x) x)

@@ -11,7 +11,7 @@ ghost use Rattle.trig.specs.Circle.{quarterSines};
 ghost use Rattle.complex.specs.Rows.{zAt, zSet};
 ghost use Rattle.fits.specs.List.{fitsIn};
 ghost use Rattle.synth.specs.Removal.{lessSingle, sentAt, subtracted};
-ghost use Rattle.synth.specs.Inner.{takenPart};
+ghost use Rattle.synth.specs.Inner.{lessPart};
 
 // Rust: `s` in `subtract`.
 fn sent_at(f: ElementFit, fs: f64, cyc: f64, k: usize, sine: &[f64; 1025]) -> Complex
@@ -23,7 +23,7 @@ fn sent_at(f: ElementFit, fs: f64, cyc: f64, k: usize, sine: &[f64; 1025]) -> Co
 }
 
 // Sample j of a part less s. A NaN and the infinities are samples too: an earlier fit may have left them.
-fn take_at(part: &mut [f32], j: usize, s: Complex)
+fn subtract_at(part: &mut [f32], j: usize, s: Complex)
     requires { ⌜ 2 * j + 1 < length (now part) ⌝ }
     ensures { λ _. ⌜ now (part .exit) ≡ zSet (now (part .entry)) j (lessSingle (zAt (now (part .entry)) j) s) ⌝ }
 {
@@ -36,15 +36,15 @@ fn take_at(part: &mut [f32], j: usize, s: Complex)
 
 // Rust: the inner loop of subtract, over the part of the buffer that the fit's span covers. The part's first sample is
 // number lo of the recording.
-fn take_off(part: &mut [f32], lo: usize, f: ElementFit, fs: f64, cyc: f64, sine: &[f64; 1025])
+fn subtract_span(part: &mut [f32], lo: usize, f: ElementFit, fs: f64, cyc: f64, sine: &[f64; 1025])
     requires { ⌜ lo + length (now part) ≤ 9007199254740992 ⌝ }
     requires { ⌜ now sine ≡ quarterSines ⌝ }
-    ensures { λ _. ⌜ now (part .exit) ≡ takenPart fs cyc f lo (now (part .entry)) (length (now (part .entry)) / 2) ⌝ }
+    ensures { λ _. ⌜ now (part .exit) ≡ lessPart fs cyc f lo (now (part .entry)) (length (now (part .entry)) / 2) ⌝ }
 {
     let n = part.len() / 2;
     for j in 0..n {
         let s = sent_at(f, fs, cyc, lo + j, sine);
-        take_at(part, j, s);
+        subtract_at(part, j, s);
     }
 }
 
@@ -69,6 +69,6 @@ pub fn subtract(
         let span = fit_span(f, fs, n);
         let a = 2 * span.lo;
         let e = 2 * span.hi;
-        take_off(&mut buf[a..e], span.lo, f, fs, cyc, sine);
+        subtract_span(&mut buf[a..e], span.lo, f, fs, cyc, sine);
     }
 }

@@ -7,6 +7,7 @@ use borrow.Author.Needs.{needs}
 use Rattle.lists.specs.Count.{countTo}
 use Rattle.complex.specs.Rows.{zAt}
 use Rattle.classes.specs.declared.class.BlockClass.the-variants.{Gap}
+use Rattle.prepared.specs.Sections.{CLASSES}
 use Rattle.prepared.specs.Inner.{classIn}
 use Rattle.gaps.specs.Pairs.{above}
 use Rattle.gaps.proofs.Counted.{count-none, count-yes, count-no}
@@ -16,8 +17,8 @@ use Rattle.gaps.proofs.pairs.count_gaps.Tie as tie
 
 abbrev Inv-loop : tie.InvT-loop
 Inv-loop work blocks reference level gap₀ hot₀ b₀ gap hot b =
-    (b ≤ blocks) × (gap ≤ b) × (hot ≤ b) × (gap ≡ countTo (classIn work (2 * blocks) Gap) b)
-    × (hot ≡ countTo (above (classIn work (2 * blocks) Gap) (zAt work) level) b)
+    (b ≤ blocks) × (gap ≤ b) × (hot ≤ b) × (gap ≡ countTo (classIn work (CLASSES * blocks) Gap) b)
+    × (hot ≡ countTo (above (classIn work (CLASSES * blocks) Gap) (zAt work) level) b)
 
 abbrev μ-loop : tie.MeasureT-loop
 μ-loop work blocks reference level gap₀ hot₀ b₀ gap hot b = blocks - b

@@ -7,6 +7,7 @@ use borrow.Author.Needs.{needs}
 use Rattle.constants.proofs.Bits.{pair-factor-bits}
 use Rattle.complex.specs.Rows.{zAt}
 use Rattle.classes.specs.declared.class.BlockClass.the-variants.{Gap}
+use Rattle.prepared.specs.Sections.{CLASSES}
 use Rattle.prepared.specs.Inner.{classIn}
 use Rattle.gaps.specs.Pairs.{above, pairsOf}
 use Rattle.gaps.proofs.Paired.{pairs-none, pairs-yes, pairs-no, pairs-done, pairs-few, pair-later}
@@ -15,7 +16,7 @@ use Rattle.gaps.proofs.pairs.sum_pairs.Tie as tie
 
 abbrev Inv-loop : tie.InvT-loop
 Inv-loop work blocks reference level found₀ b₀ found b =
-    (b ≤ blocks) × (found ≡ pairsOf (above (classIn work (2 * blocks) Gap) (zAt work) level) (zAt work) b)
+    (b ≤ blocks) × (found ≡ pairsOf (above (classIn work (CLASSES * blocks) Gap) (zAt work) level) (zAt work) b)
 
 abbrev μ-loop : tie.MeasureT-loop
 μ-loop work blocks reference level found₀ b₀ found b = blocks - b

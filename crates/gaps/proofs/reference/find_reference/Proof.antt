@@ -10,7 +10,7 @@ use Rattle.gaps.proofs.reference.find_reference.Tie as tie
 level-of-requires : tie.Need-level-of-requires
 level-of-requires c κs =
     let s = c .before .before .before .before .before .before .before in
-    let few = blocks-short (now (s .args .iq)) (s .args .len) (s .pre .0 .short) in
+    let few = blocks-short (now (s .args .iq)) (s .args .grid .window) (s .pre .0 .short) in
     (omega arith, (omega arith, (omega arith, omega arith)))
 
 returns : tie.Need-returns
@@ -19,7 +19,7 @@ returns c =
     let level = zero .before .before .before in
     let side = level .before .before .before .before in
     let s = side .before .before .before .before in (
-      reference-is _ _ _ _ (s .args .blocks) _ _ _ _ _ (side .side-level .ensures .1) (side .side-level .ensures .0) (level .level-of .ensures .0) (zero .or-zero .ensures) (c .before .max .ensures) (c .max2 .ensures),
+      reference-is _ _ _ _ (s .args .grid .blocks) _ _ _ _ _ (side .side-level .ensures .1) (side .side-level .ensures .0) (level .level-of .ensures .0) (zero .or-zero .ensures) (c .before .max .ensures) (c .max2 .ensures),
       level .level-of .ensures .2 ∙ side .side-level .ensures .1,
     )
 

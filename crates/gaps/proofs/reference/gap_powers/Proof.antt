@@ -11,6 +11,7 @@ use Rattle.row.specs.Blocks.{blockMean}
 use Rattle.row.proofs.Means.{block-fits}
 use Rattle.classes.specs.declared.class.BlockClass.the-variants.{Gap}
 use Rattle.complex.specs.Value.{cNormSqr}
+use Rattle.prepared.specs.Sections.{CLASSES}
 use Rattle.prepared.specs.Inner.{classIn}
 use Rattle.prepared.specs.Powers.{blockPower}
 use Rattle.gaps.proofs.References.{kept-yes, kept-no, kept-done}
@@ -18,12 +19,12 @@ use Rattle.gaps.proofs.reference.gap_powers.Statement.{statement}
 use Rattle.gaps.proofs.reference.gap_powers.Tie as tie
 
 abbrev Inv-loop : tie.InvT-loop
-Inv-loop iq cyc len work₀ blocks out sine n₀ b₀ work n b =
-    (b ≤ blocks) × (n ≤ b) × (length work ≡ length work₀) × (n ≡ countTo (classIn work₀ (2 * blocks) Gap) b)
-    × (work ≡ keep work₀ out (classIn work₀ (2 * blocks) Gap) (blockPower (blockMean iq cyc len)) b)
+Inv-loop iq cyc grid work₀ out sine blocks n₀ b₀ work n b =
+    (b ≤ blocks) × (n ≤ b) × (length work ≡ length work₀) × (n ≡ countTo (classIn work₀ (CLASSES * blocks) Gap) b)
+    × (work ≡ keep work₀ out (classIn work₀ (CLASSES * blocks) Gap) (blockPower (blockMean iq cyc (grid .window))) b)
 
 abbrev μ-loop : tie.MeasureT-loop
-μ-loop iq cyc len work₀ blocks out sine n₀ b₀ work n b = blocks - b
+μ-loop iq cyc grid work₀ out sine blocks n₀ b₀ work n b = blocks - b
 
 loop-holds : tie.Need-loop-holds Inv-loop μ-loop
 unfolding countTo keep

@@ -11,8 +11,8 @@ use Rattle.gaps.proofs.reference.side_level.Statement.{statement}
 use Rattle.gaps.proofs.reference.side_level.Tie as tie
 
 -- there are not too many blocks
-small : (s : tie.Start) → s .args .blocks ≤ 1048576
-small s = let few = blocks-short (now (s .args .iq)) (s .args .len) (s .pre .0 .short) in omega arith
+small : (s : tie.Start) → s .args .grid .blocks ≤ 1048576
+small s = let few = blocks-short (now (s .args .iq)) (s .args .grid .window) (s .pre .0 .short) in omega arith
 
 gap-powers-requires : tie.Need-gap-powers-requires
 gap-powers-requires c κs =

@@ -9,7 +9,7 @@ use Rattle.measure.proofs.evidence.evidence_with.Tie as tie
 sum-pairs-requires : tie.Need-sum-pairs-requires
 sum-pairs-requires c κs =
     let s = c .before .before .before in
-    let few = blocks-short (now (s .args .iq)) (s .args .len) (s .pre .0 .short) in
+    let few = blocks-short (now (s .args .iq)) (s .args .grid .window) (s .pre .0 .short) in
     (omega arith, omega arith)
 
 returns : tie.Need-returns

@@ -5,7 +5,7 @@ use Rattle.measure.proofs.offset.find_offset.Statement.{statement}
 use Rattle.measure.proofs.offset.find_offset.Tie as tie
 
 returns : tie.Need-returns
-returns c = offset-none _ (c .before .before .before .before .args .fs) _ _ _ _ (c .if1 .taken)
+returns c = offset-none _ (c .before .before .before .before .args .grid .fs) _ _ _ _ (c .if1 .taken)
 
 returns-2 : tie.Need-returns-2
 returns-2 c =

@@ -6,8 +6,7 @@ use Rattle.measure.proofs.offset.measured.Tie as tie
 
 returns : tie.Need-returns
 returns c =
-    let s = c .before .before .before in
-    (refl, measured-is _ _ _ _ _ _ _ (c .paired-power .ensures) (s .pre .1 .1 .0))
+    (refl, measured-is _ _ _ _ _ _ _ (c .paired-power .ensures) (search needs))
 
 pub measured-spec : {M : Type 1} → statement M
 measured-spec = tie.close (tie.spec (λ c κs. search needs) returns)

@@ -12,6 +12,7 @@ use Rattle.complex.specs.Rows.{zAt}
 use Rattle.row.specs.Blocks.{blockMean}
 use Rattle.row.proofs.Means.{block-fits}
 use Rattle.classes.specs.declared.class.BlockClass.the-variants.{Gap}
+use Rattle.prepared.specs.Sections.{CLASSES}
 use Rattle.prepared.specs.Inner.{classIn}
 use Rattle.prepared.specs.Powers.{blockPower}
 use Rattle.gaps.specs.Pairs.{above, inPair}
@@ -20,12 +21,12 @@ use Rattle.measure.proofs.offset.paired_power.Statement.{statement}
 use Rattle.measure.proofs.offset.paired_power.Tie as tie
 
 abbrev Inv-loop : tie.InvT-loop
-Inv-loop iq cyc len work blocks level sine sum₀ b₀ sum b =
+Inv-loop iq cyc grid work level sine blocks sum₀ b₀ sum b =
     (b ≤ blocks)
-    × (sum ≡ sumOver (blockPower (blockMean iq cyc len)) minus-zero (picked (inPair (above (classIn work (2 * blocks) Gap) (zAt work) level) blocks) (λ k. k) b))
+    × (sum ≡ sumOver (blockPower (blockMean iq cyc (grid .window))) minus-zero (picked (inPair (above (classIn work (CLASSES * blocks) Gap) (zAt work) level) blocks) (λ k. k) b))
 
 abbrev μ-loop : tie.MeasureT-loop
-μ-loop iq cyc len work blocks level sine sum₀ b₀ sum b = blocks - b
+μ-loop iq cyc grid work level sine blocks sum₀ b₀ sum b = blocks - b
 
 loop-holds : tie.Need-loop-holds Inv-loop μ-loop
 loop-holds c = (search needs, over-none _ _)

@@ -7,9 +7,9 @@ use lib.ListN.{length}
 use borrow.Author.Needs.{needs}
 use Rattle.synth.specs.Span.{spanOf}
 use Rattle.synth.proofs.Spans.{span-ordered, span-inside}
-use Rattle.prepared.proofs.Taken.{Turned, turned-none, turned-turn, turned-done, block-inside}
-use Rattle.prepared.proofs.left.less_fit.Statement.{statement}
-use Rattle.prepared.proofs.left.less_fit.Tie as tie
+use Rattle.prepared.proofs.Less.{Turned, turned-none, turned-turn, turned-done, block-inside}
+use Rattle.prepared.proofs.left.subtract_fit.Statement.{statement}
+use Rattle.prepared.proofs.left.subtract_fit.Tie as tie
 
 abbrev Inv-loop : tie.InvT-loop
 Inv-loop row₀ blocks f fs len sine s hi b₀ from₀ row b from =
@@ -52,14 +52,14 @@ loop-again c =
       inv .2,
       omega (arith, inv .3, suc-mul (turn .before .loop .b) (turn .before .before .before .before .before .args .len)),
       search needs,
-      turned-turn _ _ _ _ _ (inv .2) _ _ _ _ _ _ _ (inv .5) (inv .3) (got .get .ensures) (less .less-span .ensures) (c .before .before .put .ensures) (omega arith),
+      turned-turn _ _ _ _ _ (inv .2) _ _ _ _ _ _ _ (inv .5) (inv .3) (got .get .ensures) (less .subtract-span .ensures) (c .before .before .put .ensures) (omega arith),
     )
 
 returns : tie.Need-returns Inv-loop μ-loop
 returns c = let inv = c .before .loop .inv in λ b h. turned-done _ _ _ _ _ (inv .2) _ _ _ _ (inv .5) (inv .3) (omega arith) b
 
-pub less-fit-spec : {M : Type 1} → statement M
-less-fit-spec =
+pub subtract-fit-spec : {M : Type 1} → statement M
+subtract-fit-spec =
     tie.close
     (tie.spec
     Inv-loop

@@ -6,9 +6,9 @@ use borrow.Author.Needs.{needs}
 use Rattle.complex.specs.Rows.{zAt}
 use Rattle.fits.specs.List.{fitsIn}
 use Rattle.prepared.specs.Left.{lessFits}
-use Rattle.prepared.proofs.Taken.{fits-none, fits-turn, fits-done}
-use Rattle.prepared.proofs.left.less_fits.Statement.{statement}
-use Rattle.prepared.proofs.left.less_fits.Tie as tie
+use Rattle.prepared.proofs.Less.{fits-none, fits-turn, fits-done}
+use Rattle.prepared.proofs.left.subtract_fits.Statement.{statement}
+use Rattle.prepared.proofs.left.subtract_fits.Tie as tie
 
 abbrev Inv-loop : tie.InvT-loop
 Inv-loop row₀ blocks fits count fs len sine k₀ row k =
@@ -25,13 +25,13 @@ loop-again c =
     let less = c .before .before in
     let got = less .before .before in
     let inv = got .before .before .loop .inv in
-    (search needs, search needs, λ b h. fits-turn _ _ _ _ _ _ _ _ _ _ (inv .2 b h) (got .fit-at .ensures) (less .less-fit .ensures b h))
+    (search needs, search needs, λ b h. fits-turn _ _ _ _ _ _ _ _ _ _ (inv .2 b h) (got .fit-at .ensures) (less .subtract-fit .ensures b h))
 
 returns : tie.Need-returns Inv-loop μ-loop
 returns c = let at = c .before .loop in λ b h. fits-done _ _ _ _ _ _ _ _ _ (at .inv .2 b h) (at .inv .0) (c .loop-test .left)
 
-pub less-fits-spec : {M : Type 1} → statement M
-less-fits-spec =
+pub subtract-fits-spec : {M : Type 1} → statement M
+subtract-fits-spec =
     tie.close
     (tie.spec
     Inv-loop

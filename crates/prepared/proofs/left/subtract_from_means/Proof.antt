@@ -1,21 +1,21 @@
 use native.Mathlib.Omega.{arith}
 use lib.ListN.{length-take, length-drop}
 use borrow.Author.Needs.{needs}
-use Rattle.prepared.proofs.Taken.{lessened}
-use Rattle.prepared.proofs.left.lessen.Statement.{statement}
-use Rattle.prepared.proofs.left.lessen.Tie as tie
+use Rattle.prepared.proofs.Less.{lessened}
+use Rattle.prepared.proofs.left.subtract_from_means.Statement.{statement}
+use Rattle.prepared.proofs.left.subtract_from_means.Tie as tie
 
-less-fits-requires : tie.Need-less-fits-requires
-less-fits-requires c κs = (search needs, (search needs, (search needs, (simp (length-take, length-drop) (omega arith), search needs))))
+subtract-fits-requires : tie.Need-subtract-fits-requires
+subtract-fits-requires c κs = (search needs, (search needs, (search needs, (simp (length-take, length-drop) (omega arith), search needs))))
 
 returns : tie.Need-returns
 returns c =
     let less = c .before .before in
     let copied = less .before .before .before .before in
-    lessened _ _ (less .less-fits .last .0) _ (copied .copy-means .ensures) (search needs) _ _ _ (c .before .work2 .given .0) (less .less-fits .ensures)
+    lessened _ _ (less .subtract-fits .last .0) _ (copied .copy-means .ensures) (search needs) _ _ _ (c .before .work2 .given .0) (less .subtract-fits .ensures)
 
-pub lessen-spec : {M : Type 1} → statement M
-lessen-spec =
+pub subtract-from-means-spec : {M : Type 1} → statement M
+subtract-from-means-spec =
     tie.close
     (tie.spec
     (λ c κs. search needs)
@@ -25,6 +25,6 @@ lessen-spec =
     (λ c. search needs)
     (λ c. search needs)
     (λ c. search needs)
-    less-fits-requires
+    subtract-fits-requires
     (λ c. search needs)
     returns)

@@ -1,18 +1,18 @@
 use borrow.Author.Needs.{needs}
-use Rattle.prepared.proofs.Taken.{span-some, span-none}
-use Rattle.prepared.proofs.left.less_span.Statement.{statement}
-use Rattle.prepared.proofs.left.less_span.Tie as tie
+use Rattle.prepared.proofs.Less.{span-some, span-none}
+use Rattle.prepared.proofs.left.subtract_span.Statement.{statement}
+use Rattle.prepared.proofs.left.subtract_span.Tie as tie
 
 returns : tie.Need-returns
 returns c =
     let cut = c .before .before in
-    span-some _ _ _ _ _ _ _ _ _ (cut .before .most .ensures) (cut .least .ensures) (c .taken-from .ensures)
+    span-some _ _ _ _ _ _ _ _ _ (cut .before .most .ensures) (cut .least .ensures) (c .subtract-from .ensures)
 
 returns-2 : tie.Need-returns-2
 returns-2 c = span-none _ _ _ _ _ _ _ _ (c .before .before .most .ensures) (c .before .least .ensures) (c .if1 .left)
 
-pub less-span-spec : {M : Type 1} → statement M
-less-span-spec =
+pub subtract-span-spec : {M : Type 1} → statement M
+subtract-span-spec =
     tie.close
     (tie.spec
     (λ c. search needs)

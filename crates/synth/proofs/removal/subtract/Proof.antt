@@ -23,20 +23,20 @@ mul-a c = let s = span-within _ _ _ _ (c .before .fit-span .ensures) in search l
 mul-e : tie.Need-mul-e Inv-loop μ-loop
 mul-e c = let s = span-within _ _ _ _ (c .before .before .fit-span .ensures) in search laws
 
-mul-take-off : tie.Need-mul-take-off Inv-loop μ-loop
-mul-take-off c = let s = span-within _ _ _ _ (c .before .before .fit-span .ensures) in search laws
+mul-subtract-span : tie.Need-mul-subtract-span Inv-loop μ-loop
+mul-subtract-span c = let s = span-within _ _ _ _ (c .before .before .fit-span .ensures) in search laws
 
-sub-take-off : tie.Need-sub-take-off Inv-loop μ-loop
-sub-take-off c = let s = span-within _ _ _ _ (c .before .before .fit-span .ensures) in search laws
+sub-subtract-span : tie.Need-sub-subtract-span Inv-loop μ-loop
+sub-subtract-span c = let s = span-within _ _ _ _ (c .before .before .fit-span .ensures) in search laws
 
-part-take-off-start : tie.Need-part-take-off-start Inv-loop μ-loop
-part-take-off-start c = let s = span-within _ _ _ _ (c .before .before .fit-span .ensures) in search laws
+part-subtract-span-start : tie.Need-part-subtract-span-start Inv-loop μ-loop
+part-subtract-span-start c = let s = span-within _ _ _ _ (c .before .before .fit-span .ensures) in search laws
 
-part-take-off-end : tie.Need-part-take-off-end Inv-loop μ-loop
-part-take-off-end c = let s = span-within _ _ _ _ (c .before .before .fit-span .ensures) in search laws
+part-subtract-span-end : tie.Need-part-subtract-span-end Inv-loop μ-loop
+part-subtract-span-end c = let s = span-within _ _ _ _ (c .before .before .fit-span .ensures) in search laws
 
-take-off-requires : tie.Need-take-off-requires Inv-loop μ-loop
-take-off-requires c κs = let s = span-within _ _ _ _ (c .before .before .before .fit-span .ensures) in search laws
+subtract-span-requires : tie.Need-subtract-span-requires Inv-loop μ-loop
+subtract-span-requires c κs = let s = span-within _ _ _ _ (c .before .before .before .fit-span .ensures) in search laws
 
 loop-again : tie.Need-loop-again Inv-loop μ-loop
 loop-again c =
@@ -44,7 +44,7 @@ loop-again c =
     let spanned = lent .before .before .before .before in
     let got = spanned .before in
     let inv = got .before .before .loop .inv in
-    let back = subtracted-turn _ _ _ _ _ _ _ _ _ (inv .2) (got .fit-at .ensures) (spanned .fit-span .ensures) (lent .take-off .ensures) in
+    let back = subtracted-turn _ _ _ _ _ _ _ _ _ (inv .2) (got .fit-at .ensures) (spanned .fit-span .ensures) (lent .subtract-span .ensures) in
     (search laws, ap length back ∙ length-subtracted _ _ _ _, back)
 
 pub subtract-spec : {M : Type 1} → statement M
@@ -58,11 +58,11 @@ subtract-spec =
     (λ c κs. search laws)
     mul-a
     mul-e
-    mul-take-off
-    sub-take-off
-    part-take-off-start
-    part-take-off-end
-    take-off-requires
+    mul-subtract-span
+    sub-subtract-span
+    part-subtract-span-start
+    part-subtract-span-end
+    subtract-span-requires
     (λ c. search laws)
     (λ c. search laws)
     loop-again
