@@ -223,6 +223,8 @@ int main(int argc, char **argv)
         fprintf(stderr, "usage: receiver RATE HINT RECORDING [RESIDUAL]\n");
         return FAILED;
     }
+    if (cancel_version() / 1000 != CANCEL_VERSION_MAJOR || cancel_version() < CANCEL_VERSION)
+        return failed("the library", "it is of another release than the header");
     if (!number(argv[1], &rate))
         return failed(argv[1], "the rate is to be a number");
     if (!number(argv[2], &hint))

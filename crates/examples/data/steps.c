@@ -1,6 +1,5 @@
 /*
  * steps.c: find, fit, look, subtract, each by a call of cancel.h, where cancel_run decides by itself.
- *
  *   steps RATE CARRIER RECORDING LEFT
  *
  * RECORDING is a .cf32 file, CARRIER in Hz from its centre. LEFT receives it without the fitted key-downs of that
@@ -42,7 +41,8 @@ int main(int argc, char **argv)
     double *fs = (double *)fits, found[CANCEL_FIND_FIGURES], fitted[CANCEL_FIT_FIGURES];
     double left[CANCEL_RESIDUAL_FIGURES], clean[CANCEL_CLEAN_FIGURES];
     size_t n, m, i;
-    if (bytes % sizeof *iq != 0 || ferror(in) || !fits || !els || !work || cancel_version() < CANCEL_VERSION)
+    if (bytes % sizeof *iq != 0 || ferror(in) || !fits || !els || !work ||
+        cancel_version() / 1000 != CANCEL_VERSION_MAJOR || cancel_version() < CANCEL_VERSION)
         return fprintf(stderr, "steps RATE CARRIER RECORDING LEFT, with a file of floats and this release\n"), 2;
     ask("find", cancel_find_elements(iq, len, rate, at, els, els_len, work, work_len, found));
     n = (size_t)found[CANCEL_FIND_LISTED];
