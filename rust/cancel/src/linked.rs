@@ -191,3 +191,16 @@ linked! {
         buf: buffer, fs: number, hint_hz: number, elements: filled, fits: filled, work: filled
     ) -> figures(run::COUNT);
 }
+
+#[cfg(test)]
+mod tests {
+    use super::{told, Refusal};
+
+    #[test]
+    fn a_number_that_is_not_known() {
+        assert_eq!(told(0, 1.5), Ok(1.5));
+        assert_eq!(told(7, 1.5), Err(Refusal::Given));
+        assert_eq!(told(8, 1.5), Err(Refusal::Unknown(8)));
+        assert_eq!(told(u64::MAX, 1.5), Err(Refusal::Unknown(u64::MAX)));
+    }
+}

@@ -1,5 +1,6 @@
-//! examples/steps.c, built as C99 and as C++ with every warning an error, answers what the package answers; and what the
-//! header has as code (cancel_reason, the version) is what the package says.
+//! examples/steps.c, built as C99 and as C++ with every warning an error, answers what the package answers; what the
+//! header has as code (cancel_reason, the version) is what the package says; and what it says of the functions of numbers
+//! holds.
 
 use cancel::{
     find_elements, fit_elements, residual_check, subtract, Complex32, ElementFit, Refusal, StrongEstimate, LIBRARY,
@@ -93,6 +94,15 @@ fn steps_in_c() {
         assert_eq!(String::from_utf8(word.unwrap().stderr).unwrap(), format!("steps: find: {}\n", Refusal::Carrier));
     }
     assert!(written >= 2 && kept >= 2 && refused >= 2, "{written} written, {kept} kept, {refused} refused");
+}
+
+#[test]
+fn domains_in_c() {
+    let program = folder("domains").join("domains");
+    let (compiler, words) = WAYS[0];
+    built(compiler, words, &Path::new(env!("CARGO_MANIFEST_DIR")).join("tests/domains.c"), &program);
+    let said = Command::new(&program).output().unwrap();
+    assert!(said.status.success() && said.stdout.is_empty(), "{}", String::from_utf8_lossy(&said.stdout));
 }
 
 #[test]
