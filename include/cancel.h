@@ -63,7 +63,10 @@
 extern "C" {
 #endif
 
-/* The interface's version. MAJOR grows when something that is here changes, MINOR when something is added. */
+/*
+ * The interface's version. MAJOR grows where the same call on the same input answers something else or needs other room,
+ * MINOR where something is added.
+ */
 #define CANCEL_VERSION_MAJOR 1
 #define CANCEL_VERSION_MINOR 2
 #define CANCEL_VERSION (CANCEL_VERSION_MAJOR * 1000 + CANCEL_VERSION_MINOR)
@@ -137,7 +140,7 @@ static inline const char *cancel_reason(uint64_t refusal)
         return "accepted";
     case CANCEL_REFUSED_RATE:
         return "the rate is not a number from 2000 to 192000 samples a second: "
-               "give the one that was recorded at, or resample";
+               "give the rate of the recording, or resample it";
     case CANCEL_REFUSED_COUNT:
         return "the recording is not a whole number of samples, at most 1048576: "
                "lend whole samples, and a longer recording in pieces";

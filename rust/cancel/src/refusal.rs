@@ -84,7 +84,7 @@ impl fmt::Display for Refusal {
         f.write_str(match self {
             Refusal::Rate => {
                 "the rate is not a number from 2000 to 192000 samples a second: \
-                 give the one that was recorded at, or resample"
+                 give the rate of the recording, or resample it"
             }
             Refusal::Count => {
                 "the recording is not a whole number of samples, at most 1048576: \
