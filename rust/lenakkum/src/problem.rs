@@ -9,8 +9,8 @@ use std::process::ExitCode;
 pub enum Problem {
     /// The command line, a file or an output: what is wrong with it.
     Wrong(String),
-    /// The recording of this name was refused; what to do.
-    Refused(String, Refusal, &'static str),
+    /// The recording of this name was refused.
+    Refused(String, Refusal),
 }
 
 /// Status of a command with a refused recording.
@@ -24,22 +24,11 @@ impl Problem {
         Problem::Wrong(format!("{what}: {why}"))
     }
 
-    /// A recording that was refused.
-    pub fn refused(name: &str, refusal: Refusal) -> Problem {
-        // The package's text says what is wrong and what to do; here which words of the command line do it.
-        let advice = match refusal {
-            Refusal::Count => " (--start and --length choose a part, --pieces SECONDS runs all of it part by part)",
-            Refusal::Carrier => " (--hint HZ)",
-            _ => "",
-        };
-        Problem::Refused(name.to_string(), refusal, advice)
-    }
-
     /// Of a recording that was refused, which refusal it was.
     pub fn refusal(&self) -> Option<Refusal> {
         match self {
             Problem::Wrong(_) => None,
-            Problem::Refused(_, refusal, _) => Some(*refusal),
+            Problem::Refused(_, refusal) => Some(*refusal),
         }
     }
 
@@ -60,12 +49,21 @@ pub fn status(problems: &[Problem]) -> ExitCode {
     ExitCode::from(problems.iter().map(Problem::number).max().unwrap_or(0))
 }
 
+/// What this command has for what is refused, beside what the refusal itself says.
+fn advice(refusal: Refusal) -> &'static str {
+    match refusal {
+        Refusal::Count => " (--start and --length choose a part, --pieces SECONDS runs all of it part by part)",
+        Refusal::Carrier => " (--hint HZ)",
+        _ => "",
+    }
+}
+
 impl fmt::Display for Problem {
     fn fmt(&self, f: &mut fmt::Formatter) -> fmt::Result {
         match self {
             Problem::Wrong(line) => f.write_str(line),
-            Problem::Refused(name, refusal, advice) => {
-                write!(f, "{name}: refused ({}): {refusal}{advice}", refusal.number())
+            Problem::Refused(name, refusal) => {
+                write!(f, "{name}: refused ({}): {refusal}{}", refusal.number(), advice(*refusal))
             }
         }
     }

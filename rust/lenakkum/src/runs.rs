@@ -171,7 +171,7 @@ fn ran(
     let drawn = args.picture_file().is_some() || args.page.is_some();
     let before = if drawn { samples.clone() } else { Vec::new() };
     workspace.make_room(samples.len(), subject.rate);
-    let ran = workspace.run(&mut samples, subject.rate, args.hint).map_err(|r| Problem::refused(&subject.title(), r));
+    let ran = workspace.run(&mut samples, subject.rate, args.hint).map_err(|r| Problem::Refused(subject.title(), r));
     let written = ran.and_then(|ran| {
         written(args, &subject, &before, &samples, &ran, of)?;
         Ok((section(args, &subject, &before, &samples, &ran)?, ran))

@@ -89,7 +89,7 @@ fn in_words_after_the_report_and_on_the_line() {
     assert!(said.contains("taken off, since all four conditions hold:\n") && !said.contains("fails"), "{said}");
     let said = text(&lenakkum(&folder, "run one.cf32 two.cf32 --rate 3000 --hint 700").stdout);
     let lines: Vec<&str> = said.lines().collect();
-    assert!(lines[0].contains("; kept because the gaps hold no second sender: 0 % of the gap blocks are hot (at least"));
+    assert!(lines[0].contains("; kept because the gaps hold no second sender: 0 % of the gap blocks are hot (at "));
     assert!(lines[0].contains("; 1 key-down was fitted (at least 20 are needed); "), "{}", lines[0]);
     assert!(lines[1].ends_with(&format!("; kept because {far}")), "{}", lines[1]);
     let said = text(&lenakkum(&folder, "run one.cf32 two.cf32 --rate 3000").stdout);

@@ -35,7 +35,8 @@ fn a_statement_names_the_recording_and_what_made_it() {
     let expected = |file: &str, date: &str| {
         let recording = sha256(&folder, "one.cf32");
         format!(
-            "{ONE}(statement\n(file \"{file}\")\n(recording {recording})\n{date}(format cf32_le)\n(rate 3000)\n(hint 0)\n\
+            "{ONE}(statement\n(file \"{file}\")\n(recording {recording})\n{date}(format cf32_le)\n(rate 3000)\n\
+             (hint 0)\n\
              (version {VERSION})\n(commit {commit})\n(library {digest}))\n"
         )
     };
@@ -63,7 +64,8 @@ fn a_statement_names_the_recording_and_what_made_it() {
     let end = |date: &str| {
         let recording = sha256(&folder, "one.cf32");
         format!(
-            ", recording {recording}, {date}format cf32_le, rate 3000, hint 0, version {VERSION}, commit {commit}, library {digest}"
+            ", recording {recording}, {date}format cf32_le, rate 3000, hint 0, version {VERSION}, commit {commit}, \
+             library {digest}"
         )
     };
     let ends: Vec<bool> =
@@ -133,7 +135,7 @@ fn a_page_says_all_of_it_and_fetches_nothing() {
         "<b>fails</b>: 1 key-down was fitted (at least 20 are needed)",
         "nothing but noise in the gaps",
         "2026-11-16T10:00:00Z",
-        "It was not run: wild.cf32: refused (3): a sample is infinite or not a number: look at what recorded it",
+        "It was not run: wild.cf32: refused (3): a sample is infinite or not a number",
         "It was not run: none.cf32: No such file or directory",
         &format!("lenakkum {VERSION}"),
         &commit,
@@ -154,11 +156,12 @@ fn a_page_says_all_of_it_and_fetches_nothing() {
     assert_eq!(page.matches("href=").count(), page.matches("href=\"#").count());
     // Were there anything to fetch, it would have been seen.
     let open = page.replace("default-src 'none'", "default-src *");
-    fs::write(folder.join("open.html"), open.replace("<h1>", "<img src=\"http://tank.invalid/1.png\"><h1>")).unwrap();
+    let fetching = |page: &str| page.replace("<h1>", "<img src=\"http://tank.invalid/1.png\"><h1>");
+    fs::write(folder.join("open.html"), fetching(&open)).unwrap();
     let (_, lines) = opened(&folder, "open.html");
     assert_eq!((lines.len(), lines[0].contains("http://tank.invalid/1.png")), (1, true), "{lines:?}");
     // And what should get into a page all the same is not fetched.
-    fs::write(folder.join("closed.html"), page.replace("<h1>", "<img src=\"http://tank.invalid/1.png\"><h1>")).unwrap();
+    fs::write(folder.join("closed.html"), fetching(&page)).unwrap();
     let (_, lines) = opened(&folder, "closed.html");
     assert_eq!(lines, Vec::<String>::new());
 }

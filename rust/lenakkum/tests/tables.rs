@@ -91,7 +91,7 @@ fn json_has_a_line_for_every_file() {
     assert_eq!(column("file"), ["one.cf32", "none.cf32", "wild.cf32", "two.cf32"]);
     assert_eq!(column("run"), [0.into(), Value::Null, 3.into(), 0.into()]);
     assert!(lines[1]["problem"].as_str().unwrap().starts_with("none.cf32: No such file"));
-    assert_eq!(lines[2]["refusal"], "a sample is infinite or not a number");
+    assert!(lines[2]["refusal"].as_str().unwrap().starts_with("a sample is infinite or not a number"));
     assert_eq!((&lines[3]["hypothesis"], &lines[3]["buffer"]), (&"two".into(), &"taken".into()));
     // One that cannot be read has its line too when it is the only one.
     let said = lenakkum(&folder, "run none.cf32 --rate 3000 --json");

@@ -123,7 +123,7 @@ fn drawn_of<'a>(
 
 /// What is shown, and how large in pixels.
 fn measured<'a>(subject: &'a Subject<'a>, vectors: bool) -> Result<(Shown<'a>, (u32, u32)), Problem> {
-    let shown = shown(subject, vectors).map_err(|refusal| Problem::refused(&subject.name, refusal))?;
+    let shown = shown(subject, vectors).map_err(|refusal| Problem::Refused(subject.name.clone(), refusal))?;
     let size = (SIZE.0, SIZE.1 + draw::added(shown.reasons.len()));
     Ok((shown, size))
 }
