@@ -42,7 +42,7 @@ pub struct Run {
     #[arg(long, value_name = "HZ", value_parser = number, allow_hyphen_values = true)]
     rate: Option<f64>,
     /// The type of bare samples, as SigMF names it: cf32 (little-endian, unless it says otherwise), ci16, cu8, ..
-    #[arg(long, value_name = "TYPE", default_value = None)]
+    #[arg(long, value_name = "TYPE")]
     format: Option<Datatype>,
     /// Where the strong sender is, from the recording's centre
     #[arg(long, value_name = "HZ", value_parser = number, allow_hyphen_values = true, default_value = "0")]
@@ -68,13 +68,14 @@ pub struct Run {
     /// Say after each report why the sender was taken off or the recording kept: four conditions, values and limits
     #[arg(long)]
     pub explain: bool,
-    /// Write the recording as the run leaves it: f32 pairs, a SigMF pair if FILE is named as one; - for standard output
+    /// Write the recording as the run leaves it: f32 pairs, a SigMF pair if FILE is named as one; - for standard output;
+    /// of several a file each, as {name}-left.cf32
     #[arg(long, value_name = "FILE")]
     pub out: Option<PathBuf>,
     /// Replace what --out names
     #[arg(long)]
     pub force: bool,
-    /// Draw what the run saw and did
+    /// Draw what the run saw and did; of several a picture each, as {name}.svg
     #[cfg(feature = "pictures")]
     #[arg(long, value_name = "OUT.svg|png")]
     pub picture: Option<PathBuf>,

@@ -8,6 +8,7 @@ mod args;
 mod console;
 mod content;
 mod datatype;
+mod many;
 mod names;
 mod numbers;
 mod outcome;

@@ -1,7 +1,8 @@
-//! Runs one recording, or several on all processors, and says what came of each in the order given.
+//! Runs recordings, and says what came of each.
 
 use crate::args::Run;
 use crate::console::Console;
+use crate::many;
 use crate::names;
 use crate::outcome::{Outcome, Subject};
 use crate::page::{self, Section};
@@ -15,13 +16,9 @@ use crate::writing::{self, Staged};
 use crate::{report, tables};
 use cancel::{KeyDown, Ran, Workspace};
 use num_complex::Complex32;
-use rayon::iter::{ParallelBridge, ParallelIterator};
-use std::collections::BTreeMap;
+use std::mem;
 use std::path::Path;
 use std::process::ExitCode;
-use std::sync::atomic::{AtomicBool, Ordering};
-use std::sync::mpsc::{self, Receiver};
-use std::thread;
 
 /// Runs all that the command line names.
 pub fn run(args: &Run) -> Result<ExitCode, Problem> {
@@ -30,14 +27,14 @@ pub fn run(args: &Run) -> Result<ExitCode, Problem> {
         console.say(&tables::csv_header())?;
     }
     if args.several() {
-        several(args, &mut console)?;
+        many::several(args, &mut console)?;
     } else {
         one(args, &mut console)?;
     }
-    if let Some(path) = &args.page {
-        page::written(path, &console.sections)?;
-    }
-    Ok(console.end())
+    let sections = mem::take(&mut console.sections);
+    let status = console.end();
+    args.page.as_ref().map_or(Ok(()), |path| page::written(path, &sections))?;
+    Ok(status)
 }
 
 fn one(args: &Run, console: &mut Console) -> Result<(), Problem> {
@@ -52,62 +49,8 @@ fn one(args: &Run, console: &mut Console) -> Result<(), Problem> {
     wrong.map_or(Ok(()), Err)
 }
 
-/// What came of a piece of the file of this number, or that there are no more.
-type Message = (usize, Option<Outcome>);
-
-/// Several files, each on a processor of its own as far as there are any. None stops the others.
-fn several(args: &Run, console: &mut Console) -> Result<(), Problem> {
-    let (send, receive) = mpsc::channel::<Message>();
-    let stop = AtomicBool::new(false);
-    thread::scope(|scope| {
-        let stop = &stop;
-        scope.spawn(move || {
-            let files = args.files.iter().enumerate().par_bridge();
-            files.for_each_with((send, Workspace::new()), |(send, workspace), (i, path)| {
-                let go_on = || !stop.load(Ordering::Relaxed);
-                if go_on() {
-                    file(args, i + 1, path, workspace, &mut |outcome| send.send((i, Some(outcome))).is_ok() && go_on());
-                }
-                let _ = send.send((i, None));
-            });
-        });
-        let said = in_order(args, &receive, console, stop);
-        stop.store(true, Ordering::Relaxed);
-        said
-    })
-}
-
-/// Says what came of each, those that come too early later.
-fn in_order(args: &Run, from: &Receiver<Message>, console: &mut Console, stop: &AtomicBool) -> Result<(), Problem> {
-    let mut early: BTreeMap<usize, Vec<Option<Outcome>>> = BTreeMap::new();
-    let mut next = 0;
-    for (i, outcome) in from {
-        early.entry(i).or_default().push(outcome);
-        while let Some(outcomes) = early.remove(&next) {
-            let at = next;
-            for outcome in outcomes {
-                let outcome = match outcome {
-                    Some(outcome) => outcome,
-                    None => {
-                        console.step(&reading::name(&args.files[at]));
-                        next += 1;
-                        continue;
-                    }
-                };
-                if !console.take(outcome)? && !args.writes() {
-                    stop.store(true, Ordering::Relaxed);
-                }
-            }
-            if next == at {
-                break;
-            }
-        }
-    }
-    Ok(())
-}
-
 /// Runs a file: what came of it, or of each of its pieces, goes to `each`, which says whether to go on.
-fn file(args: &Run, number: usize, path: &Path, workspace: &mut Workspace, each: &mut dyn FnMut(Outcome) -> bool) {
+pub fn file(args: &Run, number: usize, path: &Path, workspace: &mut Workspace, each: &mut dyn FnMut(Outcome) -> bool) {
     let parts = Source::open(path, &args.reading()).and_then(|source| Parts::new(source, &args.choice()));
     let mut parts = match parts {
         Ok(parts) => parts,
