@@ -1,10 +1,9 @@
 -- `run`: what its promise says. What it goes on with where every answer is yes is what `estimate_strong` goes on with,
 -- which asks the same. Assumes nothing.
-use Prim.Native.Nat.{ℕ, zero, suc, _/_, _≤_}
-use native.Mathlib.Omega.{arith}
-use mathlib.Core.Path.{_≡_, refl, ap, _∙_}
-use mathlib.Core.Bool.{true}
-use mathlib.Core.List.{List}
+use Prim.Native.Nat.{ℕ, _/_}
+use mathlib.Core.Path.{_≡_, ap}
+use mathlib.Core.Bool.{true, false}
+use mathlib.Core.List.{List, List·Memᴰ}
 use lib.ListN.{length}
 use lib.Ieee.{Float}
 use Rattle.row.specs.Samples.{allFinite}
@@ -20,10 +19,9 @@ use Rattle.engine.specs.Run.{runFigures, runBuffer}
 use Rattle.cancel.specs.declared.running.RunAnswer.{RunAnswer}
 use Rattle.cancel.specs.declared.running.RunAnswer.the-variants.{Refused, Done}
 use Rattle.questions.specs.Answers.{accepted, refused}
-use Rattle.questions.specs.Questions.{firstNo, countOk, carrierOk, placesOk, workOk}
-use Rattle.cancel.specs.Running.{runQuestions, RunResult, runOutcome, runRule}
-use Rattle.questions.proofs.FirstNo.{answer, all-yes, first-most}
-use Rattle.questions.proofs.Accepted.{refused-by, refused-first, accepted-by}
+use Rattle.questions.specs.Questions.{ask, firstNo, countOk, carrierOk, placesOk, workOk, estimateQuestions}
+use Rattle.cancel.specs.Running.{RunResult, runOutcome, runRule}
+use Rattle.questions.proofs.Calls.{accepted-by, refused-asked, never-refused}
 
 -- a result is the same as another if its parts are
 pub run-result : (f g : Figures) (b c : List Float) (h i : Handed KeyedElement) (j k : Handed ElementFit) (v w : ℕ) → f ≡ g → b ≡ c → h ≡ i → j ≡ k → v ≡ w
@@ -33,20 +31,8 @@ run-result f g b c h i j k v w p q r s t = rw (p, q, r, s, t)
 
 -- ---- what its promise says of a refusal, and of an accepted call
 module _ (buf : List Float) (fs hint : Float) (elements fits work : List Float) where
-  pub run-refused : (n : ℕ) (lent : List Float × List Float × List Float × List Float) → refused n lent ≡ runRule buf fs hint elements fits work → n ≡ 0 → ⊥
-  unfolding runRule
-  run-refused n lent e = refused-by _ _ _ n lent e
-
-  -- its number is one of 1 to 6
-  pub run-number : (n : ℕ) (lent : List Float × List Float × List Float × List Float) → refused n lent ≡ runRule buf fs hint elements fits work → (1 ≤ n) × (n ≤ 6)
-  unfolding runRule
-  run-number n lent e =
-      let some = run-refused n lent e in
-      let first = refused-first _ _ _ n lent e in
-      let most = first-most 6 (runQuestions buf fs hint (length elements) (length fits) (length work)) refl in (omega arith, omega arith)
-
   pub run-done : (r : RunResult) → accepted r ≡ runRule buf fs hint elements fits work
-      → (firstNo (runQuestions buf fs hint (length elements) (length fits) (length work)) ≡ 0) × (r .figures ≡ runFigures buf fs hint) × (r .buffer ≡ runBuffer buf fs hint)
+      → (firstNo (estimateQuestions buf fs hint (length elements) (length fits) (length work)) ≡ 0) × (r .figures ≡ runFigures buf fs hint) × (r .buffer ≡ runBuffer buf fs hint)
       × (r .elements ≡ handed ELEMENT (strongElements buf fs hint) elements) × (r .fits ≡ handed FIT (strongFits buf fs hint) fits)
   unfolding runRule
   run-done r e =
@@ -54,24 +40,19 @@ module _ (buf : List Float) (fs hint : Float) (elements fits work : List Float) 
       let part = told .1 in
       (told .0, ap (λ (r : RunResult). r .figures) part, ap (λ (r : RunResult). r .buffer) part, ap (λ (r : RunResult). r .elements) part, ap (λ (r : RunResult). r .fits) part)
 
-  -- What 01 accepts is never refused: with a yes to each question that a run asks, 1 to 6, the fifth of two lists, the
-  -- answer is Done, with the run's figures.
+  -- its number is that of a question it asks, answered no
+  pub run-number : (n : ℕ) (lent : List Float × List Float × List Float × List Float) → refused n lent ≡ runRule buf fs hint elements fits work
+      → List·Memᴰ (ask n false) (estimateQuestions buf fs hint (length elements) (length fits) (length work))
+  unfolding runRule
+  run-number n lent e = refused-asked _ _ _ n lent e
+
+  -- What 01 accepts is never refused: with a yes to each question, 1 to 6, the fifth of two lists, the answer is Done,
+  -- with the run's figures.
   pub run-accepts : rateOk fs ≡ true → countOk (length buf) ≡ true → allFinite buf ≡ true → carrierOk fs hint ≡ true
       → placesOk (stepBlocks buf fs / 2) (length elements / ELEMENT) ≡ true → placesOk (stepBlocks buf fs / 2) (length fits / FIT) ≡ true
       → workOk (stepBlocks buf fs) (length work) ≡ true → (a : RunAnswer) (buffer-after elements-after fits-after work-after : List Float)
       → runOutcome a buffer-after elements-after fits-after work-after ≡ runRule buf fs hint elements fits work → a ≡ Done (runFigures buf fs hint)
   unfolding runRule
   run-accepts rate count finite carrier places fit-places room (Refused n) buffer-after elements-after fits-after work-after e =
-      let none = all-yes (runQuestions buf fs hint (length elements) (length fits) (length work)) each in
-      let first = refused-first _ _ _ n _ e in absurd (run-refused n _ e (first ∙ none))
-    where
-      each : (k : ℕ) → answer (runQuestions buf fs hint (length elements) (length fits) (length work)) k ≡ true
-      each zero = rate
-      each (suc zero) = count
-      each (suc (suc zero)) = finite
-      each (suc (suc (suc zero))) = carrier
-      each (suc (suc (suc (suc zero)))) = places
-      each (suc (suc (suc (suc (suc zero))))) = fit-places
-      each (suc (suc (suc (suc (suc (suc zero)))))) = room
-      each (suc (suc (suc (suc (suc (suc (suc k))))))) = refl
+      absurd (never-refused _ _ _ n _ e (rate, (count, (finite, (carrier, (places, (fit-places, (room, tt))))))))
   run-accepts rate count finite carrier places fit-places room (Done f) buffer-after elements-after fits-after work-after e = ap Done (run-done _ e .1)

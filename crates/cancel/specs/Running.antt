@@ -1,9 +1,9 @@
--- `run`, open to callers (01, part 7, with questions 1 to 6). Definitions only.
-use Prim.Native.Nat.{ℕ, _/_}
-use mathlib.Core.List.{List, [], _∷_, _++_}
+-- `run`, open to callers (01, part 7, with questions 1 to 6, which it asks as `estimate_strong` does). Definitions
+-- only.
+use Prim.Native.Nat.{ℕ}
+use mathlib.Core.List.{List}
 use lib.ListN.{length}
 use lib.Ieee.{Float}
-use Rattle.row.specs.Window.{stepBlocks}
 use Rattle.elements.specs.declared.element.KeyedElement.{KeyedElement}
 use Rattle.lists.specs.Records.{Handed, handed}
 use Rattle.elements.specs.Element.{ELEMENT, handedElements}
@@ -14,16 +14,8 @@ use Rattle.engine.specs.declared.run.Figures.{Figures}
 use Rattle.engine.specs.Run.{runFigures, runBuffer}
 use Rattle.cancel.specs.declared.running.RunAnswer.{RunAnswer}
 use Rattle.cancel.specs.declared.running.RunAnswer.the-variants.{Refused, Done}
-use Rattle.questions.specs.Answers.{Outcome, accepted, refused, byNumber}
-use Rattle.questions.specs.Refusals.{REFUSED_CARRIER, REFUSED_PLACES, REFUSED_WORK}
-use Rattle.questions.specs.Questions.{Asked, ask, firstNo, recordingQuestions, carrierOk, placesOk, workOk}
-
--- It asks 1 to 6. Each of the two lists to be filled needs floor(B/2) places.
-abbrev pub runQuestions : List Float → Float → Float → ℕ → ℕ → ℕ → List Asked
-runQuestions buf fs hint elements fits work =
-    let b = stepBlocks buf fs in
-    recordingQuestions buf fs
-    ++ (ask REFUSED_CARRIER (carrierOk fs hint) ∷ ask REFUSED_PLACES (placesOk (b / 2) (elements / ELEMENT)) ∷ ask REFUSED_PLACES (placesOk (b / 2) (fits / FIT)) ∷ ask REFUSED_WORK (workOk b work) ∷ [])
+use Rattle.questions.specs.Answers.{Outcome, accepted, refused, byQuestions}
+use Rattle.questions.specs.Questions.{estimateQuestions}
 
 -- Every figure, what the buffer holds, the elements and the fits that the lists hand out, and the length of the work
 -- slice.
@@ -45,7 +37,7 @@ runOutcome (Done f) buf elements fits work =
 -- elements and the fits of the second pass.
 unfoldable pub runRule : List Float → Float → Float → List Float → List Float → List Float → Outcome (List Float × List Float × List Float × List Float) RunResult
 runRule buf fs hint elements fits work =
-    byNumber (firstNo (runQuestions buf fs hint (length elements) (length fits) (length work)))
+    byQuestions (estimateQuestions buf fs hint (length elements) (length fits) (length work))
     (record {
       figures = runFigures buf fs hint;
       buffer = runBuffer buf fs hint;

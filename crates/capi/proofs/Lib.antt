@@ -4,7 +4,10 @@
 --             accepted call, for C: `find-told`, `fit-told`, `estimate-told`, `measure-told`,
 --             `numbers-told`
 -- RunTold     the same of a run: `run-told`
+-- CallsForC   every call that writes figures: what 01 accepts is never refused, `c-accepts`; a refusal's number is that
+--             of a question asked, `c-number`
 -- RunForC     a run that returns 0 to C is an accepted run: `run-for-c`
 pub mod Ways
 pub mod RunTold
+pub mod CallsForC
 pub mod RunForC

@@ -10,7 +10,9 @@ use Rattle.elements.specs.Element.{handedElements}
 use Rattle.fits.specs.declared.fit.ElementFit.{ElementFit}
 use Rattle.fits.specs.declared.estimate.Estimate.{Estimate}
 use Rattle.fits.specs.List.{handedFits}
-use Rattle.questions.specs.Answers.{Outcome, accepted, refused, byNumber}
+use Rattle.questions.specs.Answers.{Outcome, accepted, refused, byNumber, byQuestions}
+use Rattle.questions.specs.Questions.{Asked}
+use Rattle.questions.proofs.Calls.{refused-by}
 use Rattle.figures.specs.Calls.{foundFigures, fittedFigures, estimateFigures}
 use Rattle.capi.specs.Calls.{Called, forC}
 
@@ -20,16 +22,17 @@ refuses zero a lent h = absurd (h refl)
 refuses (suc n) a lent h = refl
 
 -- a refusal by a call that answers no figures
-pub refused-way : {L A : Type 0} (n : ℕ) (a : A) (lent : L) (rule : Outcome L A) → refused n lent ≡ rule → (n ≡ 0 → ⊥) → byNumber n a lent ≡ rule
-refused-way n a lent rule e h = refuses n a lent h ∙ e
+pub refused-way : {L A : Type 0} (qs : List Asked) (result : A) (lent : L) (n : ℕ) (a : A) (l : L) → refused n l ≡ byQuestions qs result lent → byNumber n a l ≡ byQuestions qs result lent
+refused-way qs result lent n a l e = refuses n a l (refused-by qs result lent n l e) ∙ e
 
-module _ {L A B : Type 0} (told : A → Called B) (figures : List Float) (rule : Outcome L A) (called : Called B) where
-  pub refused-call : (n : ℕ) (lent : L) → refused n lent ≡ rule → (n ≡ 0 → ⊥) → byNumber n called (figures, lent) ≡ forC told figures rule
-  refused-call n lent e h = rw (← e) (refuses n called (figures, lent) h)
+module _ {L A B : Type 0} (told : A → Called B) (figures : List Float) where
+  pub refused-call : (qs : List Asked) (result : A) (lent : L) (called : Called B) (n : ℕ) (l : L) → refused n l ≡ byQuestions qs result lent
+      → byNumber n called (figures, l) ≡ forC told figures (byQuestions qs result lent)
+  refused-call qs result lent called n l e = rw (← e) (refuses n called (figures, l) (refused-by qs result lent n l e))
 
-  pub done-call : (r : A) (lent : List Float × L) → accepted r ≡ rule → called ≡ told r → byNumber 0 called lent ≡ forC told figures rule
+  pub done-call : (rule : Outcome L A) (called : Called B) (r : A) (lent : List Float × L) → accepted r ≡ rule → called ≡ told r → byNumber 0 called lent ≡ forC told figures rule
   unfolding byNumber
-  done-call r lent e q = rw (← e) (ap accepted q)
+  done-call rule called r lent e q = rw (← e) (ap accepted q)
 
 -- an accepted call has the figures of its answer, and counts what the rules count
 module _ (work : ℕ) (figures : List Float) where

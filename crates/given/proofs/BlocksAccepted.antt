@@ -12,7 +12,7 @@ use lib.Ieee.{Float}
 use borrow.Author.Tests.{leb-true}
 use borrow.Rule.Slice.PartMut.{midOf, postOf, putMid, same-len-mid}
 use Rattle.lists.proofs.Every.{and-right}
-use Rattle.row.specs.Window.{Rate}
+use Rattle.row.specs.Window.{Rate, rateOk}
 use Rattle.row.proofs.Steps.{rate-is}
 use Rattle.lists.specs.Records.{handed, handedNumbers}
 use Rattle.elements.specs.Element.{ELEMENT}
@@ -28,11 +28,11 @@ use Rattle.given.specs.declared.blocks.BlockClasses.{BlockClasses}
 use Rattle.given.specs.declared.blocks.ClassesAnswer.{ClassesAnswer}
 use Rattle.given.specs.declared.blocks.ClassesAnswer.the-variants.{Refused, Done}
 use Rattle.questions.specs.Answers.{accepted, refused}
-use Rattle.questions.specs.Questions.{firstNo, countOk, ask}
+use Rattle.questions.specs.Questions.{firstNo, ask, countOk, placesOk, estimateOk}
 use Rattle.given.specs.Blocks.{blocksIn, classesQuestions, classesGiven, blockClassesOf, ClassesResult, classesRule, classesOutcome}
-use Rattle.questions.proofs.FirstNo.{yes-at, answer}
+use Rattle.questions.proofs.FirstNo.{yes-at}
 use Rattle.questions.proofs.Given.{estimate-sized}
-use Rattle.questions.proofs.Accepted.{refused-by, accepted-by, never-refused, refused-asked}
+use Rattle.questions.proofs.Calls.{accepted-by, refused-asked, never-refused}
 
 pub record ClassesAccepted (iq-len : ℕ) (fs : Float) (elements : List Float) (element-count : ℕ) (fits : List Float) (fit-count places : ℕ) : Type 0 where
   pub rate-ok : Rate fs
@@ -90,10 +90,6 @@ classes-made iq-len fs elements element-count fits fit-count blocks r l ys all l
 -- ---- what its promise says of a refusal, and of an accepted call
 
 module _ (iq-len : ℕ) (fs hz step : Float) (elements : List Float) (element-count : ℕ) (fits : List Float) (fit-count : ℕ) (classes : List Float) where
-  pub classes-refused : (n : ℕ) (lent : List Float) → refused n lent ≡ classesRule iq-len fs hz step elements element-count fits fit-count classes → n ≡ 0 → ⊥
-  unfolding classesRule
-  classes-refused n lent e = refused-by _ _ _ n lent e
-
   pub classes-done : (r : ClassesResult) → accepted r ≡ classesRule iq-len fs hz step elements element-count fits fit-count classes
       → (r .blocks ≡ blockClassesOf iq-len fs elements element-count fits fit-count)
       × (r .classes ≡ handed 1 (codesOf (classesGiven iq-len fs elements element-count fits fit-count) (blocksIn iq-len fs)) classes)
@@ -108,12 +104,17 @@ module _ (iq-len : ℕ) (fs hz step : Float) (elements : List Float) (element-co
   blocks-told r e = ap (λ (b : BlockClasses). b .blocks) (classes-done r e .0)
 
   -- its number is that of a question it asks, answered no
-  pub classes-number : (n : ℕ) (lent : List Float) → refused n lent ≡ classesRule iq-len fs hz step elements element-count fits fit-count classes → List·Memᴰ (ask n false) (classesQuestions iq-len fs hz step elements element-count fits fit-count (length classes))
+  pub classes-number : (n : ℕ) (lent : List Float) → refused n lent ≡ classesRule iq-len fs hz step elements element-count fits fit-count classes
+      → List·Memᴰ (ask n false) (classesQuestions iq-len fs hz step elements element-count fits fit-count (length classes))
   unfolding classesRule
-  classes-number n lent e = refused-asked (classesQuestions iq-len fs hz step elements element-count fits fit-count (length classes)) _ _ n lent e
+  classes-number n lent e = refused-asked _ _ _ n lent e
 
-  -- What 01 accepts is never refused: with a yes to each question the answer is Done, with the result of 01.
-  pub classes-accepts : ((k : ℕ) → answer (classesQuestions iq-len fs hz step elements element-count fits fit-count (length classes)) k ≡ true) → (a : ClassesAnswer) (classes-after : List Float) → classesOutcome a classes-after ≡ classesRule iq-len fs hz step elements element-count fits fit-count classes → a ≡ Done (blockClassesOf iq-len fs elements element-count fits fit-count)
+  -- What 01 accepts is never refused: with a yes to each question, 1, 2, 5 and 7, the answer is Done, with the result
+  -- of 01.
+  pub classes-accepts : rateOk fs ≡ true → countOk iq-len ≡ true → placesOk (blocksIn iq-len fs) (length classes) ≡ true
+      → estimateOk hz step elements element-count fits fit-count ≡ true → (a : ClassesAnswer) (classes-after : List Float)
+      → classesOutcome a classes-after ≡ classesRule iq-len fs hz step elements element-count fits fit-count classes
+      → a ≡ Done (blockClassesOf iq-len fs elements element-count fits fit-count)
   unfolding classesRule
-  classes-accepts each (Refused n) classes-after e = absurd (never-refused (classesQuestions iq-len fs hz step elements element-count fits fit-count (length classes)) _ _ n _ e each)
-  classes-accepts each (Done b) classes-after e = ap Done (classes-done _ e .0)
+  classes-accepts rate count places given (Refused n) classes-after e = absurd (never-refused _ _ _ n _ e (rate, (count, (places, (given, tt)))))
+  classes-accepts rate count places given (Done b) classes-after e = ap Done (classes-done _ e .0)

@@ -5,16 +5,18 @@ use mathlib.Core.Bool.{true, false}
 use mathlib.Core.List.{List, List·Memᴰ}
 use lib.ListN.{length}
 use lib.Ieee.{Float}
-use Rattle.row.specs.Samples.{Iq}
+use Rattle.row.specs.Window.{rateOk}
+use Rattle.row.specs.Samples.{allFinite}
 use Rattle.fits.specs.List.{FIT}
 use Rattle.given.specs.declared.removal.SubtractAnswer.{SubtractAnswer}
 use Rattle.given.specs.declared.removal.SubtractAnswer.the-variants.{Refused, Done}
 use Rattle.questions.specs.Answers.{refused}
-use Rattle.questions.specs.Questions.{firstNo, ask}
+use Rattle.questions.specs.Questions.{firstNo, ask, countOk, estimateOk}
 use Rattle.given.specs.Removal.{subtractQuestions, subtractRule, subtractOutcome}
-use Rattle.questions.proofs.FirstNo.{yes-at, answer}
+use Rattle.questions.proofs.FirstNo.{yes-at}
 use Rattle.questions.proofs.Given.{estimate-sized}
-use Rattle.questions.proofs.Accepted.{recording-is, refused-by, never-refused, refused-asked}
+use Rattle.questions.proofs.Accepted.{recording-is}
+use Rattle.questions.proofs.Calls.{refused-asked, never-refused}
 
 pub record SubtractAccepted (buf fits : List Float) (fit-count : ℕ) : Type 0 where
   pub short : length buf ≤ 2097152
@@ -29,20 +31,19 @@ subtract-accepted buf fs hz step elements element-count fits fit-count all =
       fit-room = estimate-sized hz step elements element-count fits fit-count (yes 3) .fit-room;
     }
 
--- what its promise says of a refusal
-pub subtract-refused : (buf : List Float) (fs hz step : Float) (elements : List Float) (element-count : ℕ) (fits : List Float) (fit-count : ℕ)
-    (n : ℕ) (lent : List Float) → refused n lent ≡ subtractRule buf fs hz step elements element-count fits fit-count → n ≡ 0 → ⊥
-unfolding subtractRule
-subtract-refused buf fs hz step elements element-count fits fit-count n lent e = refused-by _ _ _ n lent e
+-- ---- what its promise says of a refusal, and of an accepted call
 
 module _ (buf : List Float) (fs hz step : Float) (elements : List Float) (element-count : ℕ) (fits : List Float) (fit-count : ℕ) where
   -- its number is that of a question it asks, answered no
-  pub subtract-number : (n : ℕ) (lent : List Float) → refused n lent ≡ subtractRule buf fs hz step elements element-count fits fit-count → List·Memᴰ (ask n false) (subtractQuestions buf fs hz step elements element-count fits fit-count)
+  pub subtract-number : (n : ℕ) (lent : List Float) → refused n lent ≡ subtractRule buf fs hz step elements element-count fits fit-count
+      → List·Memᴰ (ask n false) (subtractQuestions buf fs hz step elements element-count fits fit-count)
   unfolding subtractRule
-  subtract-number n lent e = refused-asked (subtractQuestions buf fs hz step elements element-count fits fit-count) _ _ n lent e
+  subtract-number n lent e = refused-asked _ _ _ n lent e
 
-  -- What 01 accepts is never refused: with a yes to each question the answer is Done.
-  pub subtract-accepts : ((k : ℕ) → answer (subtractQuestions buf fs hz step elements element-count fits fit-count) k ≡ true) → (a : SubtractAnswer) (buffer-after : List Float) → subtractOutcome a buffer-after ≡ subtractRule buf fs hz step elements element-count fits fit-count → a ≡ Done
+  -- What 01 accepts is never refused: with a yes to each question, 1, 2, 3 and 7, the answer is Done.
+  pub subtract-accepts : rateOk fs ≡ true → countOk (length buf) ≡ true → allFinite buf ≡ true → estimateOk hz step elements element-count fits fit-count ≡ true
+      → (a : SubtractAnswer) (buffer-after : List Float) → subtractOutcome a buffer-after ≡ subtractRule buf fs hz step elements element-count fits fit-count
+      → a ≡ Done
   unfolding subtractRule
-  subtract-accepts each (Refused n) buffer-after e = absurd (never-refused (subtractQuestions buf fs hz step elements element-count fits fit-count) _ _ n _ e each)
-  subtract-accepts each Done buffer-after e = refl
+  subtract-accepts rate count finite given (Refused n) buffer-after e = absurd (never-refused _ _ _ n _ e (rate, (count, (finite, (given, tt)))))
+  subtract-accepts rate count finite given Done buffer-after e = refl

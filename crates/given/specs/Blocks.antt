@@ -13,9 +13,9 @@ use Rattle.classes.specs.Classify.{blocksOf, classOf, countsOf}
 use Rattle.given.specs.declared.blocks.BlockClasses.{BlockClasses}
 use Rattle.given.specs.declared.blocks.ClassesAnswer.{ClassesAnswer}
 use Rattle.given.specs.declared.blocks.ClassesAnswer.the-variants.{Refused, Done}
-use Rattle.questions.specs.Answers.{Outcome, accepted, refused, byNumber}
+use Rattle.questions.specs.Answers.{Outcome, accepted, refused, byQuestions}
 use Rattle.questions.specs.Refusals.{REFUSED_RATE, REFUSED_COUNT, REFUSED_PLACES, REFUSED_GIVEN}
-use Rattle.questions.specs.Questions.{Asked, ask, firstNo, countOk, placesOk, estimateOk}
+use Rattle.questions.specs.Questions.{Asked, ask, countOk, placesOk, estimateOk}
 
 -- blocks of a recording that is lent nowhere, by its f32 count alone: n is half of it
 abbrev pub blocksIn : ℕ → Float → ℕ
@@ -52,7 +52,7 @@ blockClassesOf iq-len fs elements element-count fits fit-count =
 -- number.
 unfoldable pub classesRule : ℕ → Float → Float → Float → List Float → ℕ → List Float → ℕ → List Float → Outcome (List Float) ClassesResult
 classesRule iq-len fs hz step elements element-count fits fit-count classes =
-    byNumber (firstNo (classesQuestions iq-len fs hz step elements element-count fits fit-count (length classes)))
+    byQuestions (classesQuestions iq-len fs hz step elements element-count fits fit-count (length classes))
     (record {
       blocks = blockClassesOf iq-len fs elements element-count fits fit-count;
       classes = handed 1 (codesOf (classesGiven iq-len fs elements element-count fits fit-count) (blocksIn iq-len fs)) classes;

@@ -1,24 +1,17 @@
 -- `second_carrier_evidence`, open to callers (01, part 6, with questions 1, 2, 3, 6 and 7), on a given estimate.
 -- Definitions only.
 use Prim.Native.Nat.{ℕ}
-use mathlib.Core.List.{List, [], _∷_, _++_}
+use mathlib.Core.List.{List}
 use lib.ListN.{length}
 use lib.Ieee.{Float}
-use Rattle.row.specs.Window.{stepBlocks}
 use Rattle.elements.specs.Element.{elementsIn}
 use Rattle.fits.specs.List.{fitsIn}
 use Rattle.measure.specs.declared.evidence.SecondCarrierEvidence.{SecondCarrierEvidence}
 use Rattle.measure.specs.Evidence.{evidenceCheckOf}
 use Rattle.given.specs.declared.evidence.EvidenceAnswer.{EvidenceAnswer}
 use Rattle.given.specs.declared.evidence.EvidenceAnswer.the-variants.{Refused, Done}
-use Rattle.questions.specs.Answers.{Outcome, accepted, refused, byNumber}
-use Rattle.questions.specs.Refusals.{REFUSED_WORK, REFUSED_GIVEN}
-use Rattle.questions.specs.Questions.{Asked, ask, firstNo, recordingQuestions, workOk, estimateOk}
-
--- It asks 1, 2, 3, 6 and 7: of the recording, the work slice and the given estimate.
-abbrev pub evidenceQuestions : List Float → Float → Float → Float → List Float → ℕ → List Float → ℕ → ℕ → List Asked
-evidenceQuestions iq fs hz step elements element-count fits fit-count work =
-    recordingQuestions iq fs ++ (ask REFUSED_WORK (workOk (stepBlocks iq fs) work) ∷ ask REFUSED_GIVEN (estimateOk hz step elements element-count fits fit-count) ∷ [])
+use Rattle.questions.specs.Answers.{Outcome, accepted, refused, byQuestions}
+use Rattle.questions.specs.Questions.{measureQuestions}
 
 -- The evidence of a second carrier, and the length of the work slice.
 pub record EvidenceResult : Type 0 where
@@ -34,6 +27,6 @@ evidenceOutcome (Done r) work = accepted (record { evidence = r; work = length w
 -- carrier, elements and fits. The carrier step is asked about and has no part in it.
 unfoldable pub evidenceRule : List Float → Float → Float → Float → List Float → ℕ → List Float → ℕ → List Float → Outcome (List Float) EvidenceResult
 evidenceRule iq fs hz step elements element-count fits fit-count work =
-    byNumber (firstNo (evidenceQuestions iq fs hz step elements element-count fits fit-count (length work)))
+    byQuestions (measureQuestions iq fs hz step elements element-count fits fit-count (length work))
     (record { evidence = evidenceCheckOf iq fs hz (fitsIn fits fit-count) (elementsIn elements element-count); work = length work })
     work

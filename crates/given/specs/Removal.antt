@@ -7,9 +7,9 @@ use Rattle.fits.specs.List.{fitsIn}
 use Rattle.synth.specs.Removal.{subtracted}
 use Rattle.given.specs.declared.removal.SubtractAnswer.{SubtractAnswer}
 use Rattle.given.specs.declared.removal.SubtractAnswer.the-variants.{Refused, Done}
-use Rattle.questions.specs.Answers.{Outcome, accepted, refused, byNumber}
+use Rattle.questions.specs.Answers.{Outcome, accepted, refused, byQuestions}
 use Rattle.questions.specs.Refusals.{REFUSED_GIVEN}
-use Rattle.questions.specs.Questions.{Asked, ask, firstNo, recordingQuestions, estimateOk}
+use Rattle.questions.specs.Questions.{Asked, ask, recordingQuestions, estimateOk}
 
 -- It asks 1, 2, 3 and 7: of the buffer and the given estimate.
 abbrev pub subtractQuestions : List Float → Float → Float → Float → List Float → ℕ → List Float → ℕ → List Asked
@@ -25,5 +25,5 @@ subtractOutcome Done buf = accepted buf
 -- carrier step and the elements are asked about and have no part in it.
 unfoldable pub subtractRule : List Float → Float → Float → Float → List Float → ℕ → List Float → ℕ → Outcome (List Float) (List Float)
 subtractRule buf fs hz step elements element-count fits fit-count =
-    byNumber (firstNo (subtractQuestions buf fs hz step elements element-count fits fit-count)) (subtracted fs (hz ⊘ fs) buf (fitsIn fits fit-count))
+    byQuestions (subtractQuestions buf fs hz step elements element-count fits fit-count) (subtracted fs (hz ⊘ fs) buf (fitsIn fits fit-count))
     buf

@@ -1,55 +1,17 @@
 // second_carrier_evidence, open to callers.
 use measure::SecondCarrierEvidence;
-use questions::estimate_ok;
-use questions::recording_no;
-use questions::refusals::REFUSED_GIVEN;
-use questions::refusals::REFUSED_WORK;
-use questions::work_ok;
+use questions::measure_no;
 ghost use mathlib.Core.Path.{_≡_};
-ghost use Rattle.questions.specs.Questions.{firstNo};
-ghost use Rattle.given.specs.Evidence.{evidenceQuestions, evidenceOutcome, evidenceRule};
+ghost use Rattle.row.specs.Samples.{Singles};
+ghost use Rattle.given.specs.Evidence.{evidenceOutcome, evidenceRule};
 
 pub enum EvidenceAnswer {
     Refused(u64),
     Done(SecondCarrierEvidence),
 }
 
-// Questions 1, 2, 3, 6 and 7: the number of the first no, 0 where every answer is yes.
-fn evidence_no(
-    iq: &[f32],
-    fs: f64,
-    carrier_hz: f64,
-    carrier_step_hz: f64,
-    elements: &[f64],
-    element_count: usize,
-    fits: &[f64],
-    fit_count: usize,
-    work: usize,
-) -> u64
-    ensures { λ r. ⌜ r ≡ firstNo (evidenceQuestions (now (iq .entry)) fs «carrier_hz» «carrier_step_hz» (now (elements .entry)) «element_count» (now (fits .entry)) «fit_count» work) ⌝ }
-{
-    let no = recording_no(iq, fs);
-    if no != 0 {
-        return no;
-    }
-    if !work_ok(iq, fs, work) {
-        return REFUSED_WORK;
-    }
-    if !estimate_ok(
-        carrier_hz,
-        carrier_step_hz,
-        elements,
-        element_count,
-        fits,
-        fit_count,
-    ) {
-        return REFUSED_GIVEN;
-    }
-    0
-}
-
 // Rust: second_carrier_evidence. It asks first; the estimate is given as its carrier, its carrier step and two flat
-// lists.
+// lists. Each number of the recording is an f32, as in residual_check.
 pub fn second_carrier_evidence(
     iq: &[f32],
     fs: f64,
@@ -63,8 +25,9 @@ pub fn second_carrier_evidence(
 ) -> EvidenceAnswer
     ensures { λ r. ⌜ evidenceOutcome r (now (work .exit))
         ≡ evidenceRule (now (iq .entry)) fs «carrier_hz» «carrier_step_hz» (now (elements .entry)) «element_count» (now (fits .entry)) «fit_count» (now (work .entry)) ⌝ }
+    ensures { λ _. ⌜ Singles (now (iq .entry)) ⌝ }
 {
-    let no = evidence_no(
+    let no = measure_no(
         iq,
         fs,
         carrier_hz,

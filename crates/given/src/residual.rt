@@ -1,54 +1,17 @@
 // residual_check, open to callers.
 use measure::ResidualCheck;
-use questions::estimate_ok;
-use questions::recording_no;
-use questions::refusals::REFUSED_GIVEN;
-use questions::refusals::REFUSED_WORK;
-use questions::work_ok;
+use questions::measure_no;
 ghost use mathlib.Core.Path.{_≡_};
-ghost use Rattle.questions.specs.Questions.{firstNo};
-ghost use Rattle.given.specs.Residual.{residualQuestions, residualOutcome, residualRule};
+ghost use Rattle.row.specs.Samples.{Singles};
+ghost use Rattle.given.specs.Residual.{residualOutcome, residualRule};
 
 pub enum ResidualAnswer {
     Refused(u64),
     Done(ResidualCheck),
 }
 
-// Questions 1, 2, 3, 6 and 7: the number of the first no, 0 where every answer is yes.
-fn residual_no(
-    iq: &[f32],
-    fs: f64,
-    carrier_hz: f64,
-    carrier_step_hz: f64,
-    elements: &[f64],
-    element_count: usize,
-    fits: &[f64],
-    fit_count: usize,
-    work: usize,
-) -> u64
-    ensures { λ r. ⌜ r ≡ firstNo (residualQuestions (now (iq .entry)) fs «carrier_hz» «carrier_step_hz» (now (elements .entry)) «element_count» (now (fits .entry)) «fit_count» work) ⌝ }
-{
-    let no = recording_no(iq, fs);
-    if no != 0 {
-        return no;
-    }
-    if !work_ok(iq, fs, work) {
-        return REFUSED_WORK;
-    }
-    if !estimate_ok(
-        carrier_hz,
-        carrier_step_hz,
-        elements,
-        element_count,
-        fits,
-        fit_count,
-    ) {
-        return REFUSED_GIVEN;
-    }
-    0
-}
-
-// Rust: residual_check. It asks first; the estimate is given as its carrier, its carrier step and two flat lists.
+// Rust: residual_check. It asks first; the estimate is given as its carrier, its carrier step and two flat lists. What
+// is promised of the numbers it was handed, that each is an f32, is what the theorem on the ranked powers goes by.
 pub fn residual_check(
     iq: &[f32],
     fs: f64,
@@ -62,8 +25,9 @@ pub fn residual_check(
 ) -> ResidualAnswer
     ensures { λ r. ⌜ residualOutcome r (now (work .exit))
         ≡ residualRule (now (iq .entry)) fs «carrier_hz» «carrier_step_hz» (now (elements .entry)) «element_count» (now (fits .entry)) «fit_count» (now (work .entry)) ⌝ }
+    ensures { λ _. ⌜ Singles (now (iq .entry)) ⌝ }
 {
-    let no = residual_no(
+    let no = measure_no(
         iq,
         fs,
         carrier_hz,

@@ -1,14 +1,14 @@
 -- The first no of a list of questions. Assumes nothing.
-use Prim.Native.Nat.{ℕ, zero, suc, _≤_}
+use Prim.Native.Nat.{ℕ, zero, suc}
 use native.Mathlib.Omega.{arith}
 use mathlib.Core.Path.{_≡_, refl}
 use mathlib.Core.Logic.{_⊎_, inl, inr, ⊎-elim}
 use mathlib.Core.Bool.{Bool, true, false, not, _&&_, false≢true}
-use mathlib.Core.List.{List, [], _∷_, _++_, List·Memᴰ, List·Memᴰ·head, List·Memᴰ·tail, List·Memᴰ·not-nil, List·Memᴰ·cases-cons}
-use lib.Dec.{ltb, leb}
+use mathlib.Core.List.{List, [], _∷_, _++_, List·Memᴰ, List·Memᴰ·head, List·Memᴰ·tail}
+use lib.Dec.{ltb}
 use borrow.Author.Needs.{needs}
-use borrow.Author.Tests.{not-true, not-false, leb-true}
-use Rattle.lists.proofs.Every.{and-left, and-right}
+use borrow.Author.Tests.{not-true, not-false}
+use Rattle.lists.proofs.Every.{and-right}
 use Rattle.questions.specs.Questions.{Asked, ask, firstNo}
 
 -- ---- a turn of the code: t is what the question's function answered. A yes is passed over, a no is the result.
@@ -47,35 +47,22 @@ yes-at (ask (suc n) false ∷ qs) p e k = let never : ⊥ = omega arith in absur
 
 -- ---- what the result can be: 0 where each answer is yes, and else the number of a question answered no
 
-pub all-yes : (qs : List Asked) → ((k : ℕ) → answer qs k ≡ true) → firstNo qs ≡ 0
+-- a yes to each question, in their order
+abbrev pub AllYes : List Asked → Type 0
+AllYes [] = Unit {0}
+AllYes (ask n b ∷ qs) = (b ≡ true) × AllYes qs
+
+pub all-yes : (qs : List Asked) → AllYes qs → firstNo qs ≡ 0
 unfolding firstNo
 all-yes [] each = refl
-all-yes (ask n true ∷ qs) each = all-yes qs (λ k. each (suc k))
-all-yes (ask n false ∷ qs) each = absurd (false≢true (each zero))
+all-yes (ask n true ∷ qs) each = all-yes qs (each .1)
+all-yes (ask n false ∷ qs) each = absurd (false≢true (each .0))
 
 pub first-asked : (qs : List Asked) → (firstNo qs ≡ 0) ⊎ List·Memᴰ (ask (firstNo qs) false) qs
 unfolding firstNo
 first-asked [] = inl refl
 first-asked (ask n true ∷ qs) = ⊎-elim (λ e. inl e) (λ m. inr (List·Memᴰ·tail m)) (first-asked qs)
 first-asked (ask n false ∷ qs) = inr (List·Memᴰ·head refl)
-
--- so it is at most what every number is
-abbrev pub numbered-to : ℕ → List Asked → Bool
-numbered-to most [] = true
-numbered-to most (ask n b ∷ qs) = leb n most && numbered-to most qs
-
-asked-most : (most n : ℕ) (b : Bool) (qs : List Asked) → numbered-to most qs ≡ true → List·Memᴰ (ask n b) qs → n ≤ most
-asked-most most n b [] p m = absurd (List·Memᴰ·not-nil m)
-asked-most most n b (ask k d ∷ qs) p m =
-    ⊎-elim (here k d p) (asked-most most n b qs (and-right (leb k most) (numbered-to most qs) p)) (List·Memᴰ·cases-cons m)
-  where
-    here : (k : ℕ) (d : Bool) → leb k most && numbered-to most qs ≡ true → ask n b ≡ ask k d → n ≤ most
-    here k d p e =
-        let same : n ≡ k = cc in
-        let most-k = leb-true k most (and-left (leb k most) (numbered-to most qs) p) in omega arith
-
-pub first-most : (most : ℕ) (qs : List Asked) → numbered-to most qs ≡ true → firstNo qs ≤ most
-first-most most qs p = ⊎-elim (λ e. omega arith) (asked-most most (firstNo qs) false qs p) (first-asked qs)
 
 -- ---- questions that go on after others: a no before them is the result, and else theirs is
 

@@ -2,7 +2,7 @@
 -- result, by its number. Questions 1 and 3 are `rateOk` and `allFinite` of crate row. Definitions only.
 use Prim.Native.Nat.{ℕ, _*_, _/_, _%_}
 use mathlib.Core.Bool.{Bool, _&&_, cond}
-use mathlib.Core.List.{List, [], _∷_}
+use mathlib.Core.List.{List, [], _∷_, _++_}
 use lib.Dec.{leb, eqb}
 use lib.ListN.{length}
 use lib.Ieee.{Float, lt, le, eq}
@@ -12,12 +12,12 @@ use Rattle.float.specs.Compare.{absOf}
 use Rattle.float.specs.Whole.{floorOf}
 use Rattle.float.specs.Size.{finiteF, sized, 2^}
 use Rattle.row.specs.Samples.{allFinite}
-use Rattle.row.specs.Window.{rateOk, stepOf}
+use Rattle.row.specs.Window.{rateOk, stepOf, stepBlocks}
 use Rattle.elements.specs.declared.element.KeyedElement.{KeyedElement}
 use Rattle.elements.specs.Element.{ELEMENT, elementAt}
 use Rattle.fits.specs.declared.fit.ElementFit.{ElementFit}
 use Rattle.fits.specs.List.{FIT, fitAt}
-use Rattle.questions.specs.Refusals.{REFUSED_RATE, REFUSED_COUNT, REFUSED_SAMPLE}
+use Rattle.questions.specs.Refusals.{REFUSED_RATE, REFUSED_COUNT, REFUSED_SAMPLE, REFUSED_CARRIER, REFUSED_PLACES, REFUSED_WORK, REFUSED_GIVEN}
 
 -- a question with its number, and whether the answer is yes
 pub data Asked : Type 0 where
@@ -85,3 +85,20 @@ fitsOk l count = allOk fitOk (fitAt l) (length l / FIT) count
 unfoldable pub estimateOk : Float → Float → List Float → ℕ → List Float → ℕ → Bool
 estimateOk carrier step elements element-count fits fit-count =
     sizeOk carrier && sizeOk step && elementsOk elements element-count && fitsOk fits fit-count
+
+-- ---- what more than one call asks
+
+-- `estimate_strong` and the run ask 1 to 6. Each of the two lists to be filled needs floor(B/2) places.
+abbrev pub estimateQuestions : List Float → Float → Float → ℕ → ℕ → ℕ → List Asked
+estimateQuestions iq fs hint elements fits work =
+    let b = stepBlocks iq fs in
+    recordingQuestions iq fs
+    ++ (ask REFUSED_CARRIER (carrierOk fs hint) ∷ ask REFUSED_PLACES (placesOk (b / 2) (elements / ELEMENT))
+    ∷ ask REFUSED_PLACES (placesOk (b / 2) (fits / FIT)) ∷ ask REFUSED_WORK (workOk b work) ∷ [])
+
+-- `residual_check` and `second_carrier_evidence` ask 1, 2, 3, 6 and 7: of the recording, the work slice and the given
+-- estimate.
+abbrev pub measureQuestions : List Float → Float → Float → Float → List Float → ℕ → List Float → ℕ → ℕ → List Asked
+measureQuestions iq fs hz step elements element-count fits fit-count work =
+    recordingQuestions iq fs
+    ++ (ask REFUSED_WORK (workOk (stepBlocks iq fs) work) ∷ ask REFUSED_GIVEN (estimateOk hz step elements element-count fits fit-count) ∷ [])

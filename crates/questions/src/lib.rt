@@ -1,5 +1,6 @@
 // 01's questions, each once: yes or no; 1 and 3 are answered by crate row. A call, in a crate above, asks those about
-// what it is given, in the order of its own file; callers call `cancel`, which does not hand the questions on.
+// what it is given, in the order of its own file; what more than one call asks stands here. Callers call `cancel`,
+// which does not hand the questions on.
 pub mod refusals;
 
 use elements::ELEMENT;
@@ -8,9 +9,13 @@ use elements::element_at;
 use fits::ElementFit;
 use fits::FIT;
 use fits::fit_at;
+use refusals::REFUSED_CARRIER;
 use refusals::REFUSED_COUNT;
+use refusals::REFUSED_GIVEN;
+use refusals::REFUSED_PLACES;
 use refusals::REFUSED_RATE;
 use refusals::REFUSED_SAMPLE;
+use refusals::REFUSED_WORK;
 use row::edge_step;
 use row::step_blocks;
 ghost use mathlib.Core.Path.{_≡_};
@@ -18,7 +23,7 @@ ghost use Prim.Native.Nat.{_/_};
 ghost use Rattle.row.specs.Window.{stepBlocks};
 ghost use Rattle.row.specs.Envelope.{rowLength};
 ghost use Rattle.classes.specs.Classify.{blocksOf};
-ghost use Rattle.questions.specs.Questions.{blocksFor, firstNo, recordingQuestions, countOk, carrierOk, placesOk, workOk, sizeOk, positionOk, elementOk, elementsOk, fitOk, fitsOk, estimateOk};
+ghost use Rattle.questions.specs.Questions.{blocksFor, firstNo, recordingQuestions, countOk, carrierOk, placesOk, workOk, sizeOk, positionOk, elementOk, elementsOk, fitOk, fitsOk, estimateOk, estimateQuestions, measureQuestions};
 
 // 1 to 3, which every call that is lent a recording asks first: the number of the first no, 0 where there is none.
 pub fn recording_no(iq: &[f32], fs: f64) -> u64
@@ -109,11 +114,7 @@ pub fn class_places_ok(iq_len: usize, fs: f64, places: usize) -> bool
 pub fn work_ok(iq: &[f32], fs: f64, len: usize) -> bool
     ensures { λ r. ⌜ r ≡ workOk (stepBlocks (now (iq .entry)) fs) len ⌝ }
 {
-    if step_blocks(iq, fs) <= len / 4 {
-        true
-    } else {
-        false
-    }
+    step_blocks(iq, fs) <= len / 4
 }
 
 // 2^200, the largest size of a given number.
@@ -229,4 +230,69 @@ pub fn estimate_ok(
         return false;
     }
     fits_ok(fits, fit_count)
+}
+
+// 1 to 6, as `estimate_strong` and the run ask them: the number of the first no, 0 where there is none.
+pub fn estimate_no(
+    iq: &[f32],
+    fs: f64,
+    hint_hz: f64,
+    elements: usize,
+    fits: usize,
+    work: usize,
+) -> u64
+    ensures { λ r. ⌜ r ≡ firstNo (estimateQuestions (now (iq .entry)) fs «hint_hz» elements fits work) ⌝ }
+{
+    let no = recording_no(iq, fs);
+    if no != 0 {
+        return no;
+    }
+    if !carrier_ok(fs, hint_hz) {
+        return REFUSED_CARRIER;
+    }
+    if !find_places_ok(iq, fs, elements / ELEMENT) {
+        return REFUSED_PLACES;
+    }
+    if !find_places_ok(iq, fs, fits / FIT) {
+        return REFUSED_PLACES;
+    }
+    if !work_ok(iq, fs, work) {
+        return REFUSED_WORK;
+    }
+    0
+}
+
+// 1, 2, 3, 6 and 7, as `residual_check` and `second_carrier_evidence` ask them: the number of the first no, 0 where
+// there is none.
+pub fn measure_no(
+    iq: &[f32],
+    fs: f64,
+    carrier_hz: f64,
+    carrier_step_hz: f64,
+    elements: &[f64],
+    element_count: usize,
+    fits: &[f64],
+    fit_count: usize,
+    work: usize,
+) -> u64
+    ensures { λ r. ⌜ r ≡ firstNo (measureQuestions (now (iq .entry)) fs «carrier_hz» «carrier_step_hz» (now (elements .entry)) «element_count» (now (fits .entry)) «fit_count» work) ⌝ }
+{
+    let no = recording_no(iq, fs);
+    if no != 0 {
+        return no;
+    }
+    if !work_ok(iq, fs, work) {
+        return REFUSED_WORK;
+    }
+    if !estimate_ok(
+        carrier_hz,
+        carrier_step_hz,
+        elements,
+        element_count,
+        fits,
+        fit_count,
+    ) {
+        return REFUSED_GIVEN;
+    }
+    0
 }

@@ -1,5 +1,5 @@
-// What a refusal's number means. 1 to 7 are 01's questions; 8 to 19 are those that document 02 adds, each asked from the
-// landing of its call on.
+// What a refusal's number means. 1 to 7 are 01's questions; 8 to 19 are those that document 02 adds, each asked from
+// the landing of its call on.
 pub const REFUSED_RATE: u64 = 1;
 
 pub const REFUSED_COUNT: u64 = 2;

@@ -27,8 +27,8 @@ use Rattle.engine.specs.Run.{runFigures}
 use Rattle.cancel.specs.declared.running.RunAnswer.the-variants.{Refused, Done}
 use Rattle.questions.specs.Answers.{refused, accepted, byNumber}
 use Rattle.questions.specs.Refusals.{REFUSED_COUNT, REFUSED_SAMPLE}
-use Rattle.questions.specs.Questions.{ask, firstNo, countOk, carrierOk, placesOk, workOk}
-use Rattle.cancel.specs.Running.{runQuestions, RunResult, runRule}
+use Rattle.questions.specs.Questions.{ask, firstNo, countOk, carrierOk, placesOk, workOk, estimateQuestions}
+use Rattle.cancel.specs.Running.{RunResult, runRule}
 use Rattle.cancel.proofs.RunAccepted.{run-done}
 use Rattle.format.specs.Bytes.{bytesOk, INPUT, partAt}
 use Rattle.format.specs.Text.{Appended}
@@ -69,7 +69,7 @@ module _ (iq : List Float) (even : length iq % 2 ≡ 0) (few : length iq ≤ 409
   work-yes n h = let blocks = blocks-few iq few in le-leb (4 * stepBlocks iq RATE) n (omega arith)
 
   only-third : (elements fits work : ℕ) → 4096 ≤ elements → 8192 ≤ fits → 8192 ≤ work
-      → firstNo (runQuestions iq RATE HINT elements fits work) ≡ firstNo (ask REFUSED_SAMPLE (allFinite iq) ∷ [])
+      → firstNo (estimateQuestions iq RATE HINT elements fits work) ≡ firstNo (ask REFUSED_SAMPLE (allFinite iq) ∷ [])
   unfolding firstNo
   only-third elements fits work a b c =
       let places : 1024 ≤ elements / ELEMENT = omega arith in
@@ -95,7 +95,7 @@ module _ (iq : List Float) (fs hint : Float) (elements fits work : List Float) w
     pub work-numbers : 8192 ≤ length work
 
 module _ {iq : List Float} {fs hint : Float} {elements fits work : List Float} where
-  third : Lent iq fs hint elements fits work → firstNo (runQuestions iq fs hint (length elements) (length fits) (length work)) ≡ firstNo (ask REFUSED_SAMPLE (allFinite iq) ∷ [])
+  third : Lent iq fs hint elements fits work → firstNo (estimateQuestions iq fs hint (length elements) (length fits) (length work)) ≡ firstNo (ask REFUSED_SAMPLE (allFinite iq) ∷ [])
   third l =
       rw (l .is-rate, l .is-hint)
       (only-third iq (l .even) (l .few) (length elements) (length fits) (length work) (l .elements-places) (l .fits-places) (l .work-numbers))

@@ -7,8 +7,8 @@ use lib.ListN.{length}
 use lib.Ieee.{Float}
 use borrow.Author.Tests.{leb-true}
 use Rattle.lists.specs.Firsts.{firsts}
-use Rattle.row.specs.Window.{Rate, stepBlocks}
-use Rattle.row.specs.Samples.{Iq}
+use Rattle.row.specs.Window.{Rate, rateOk, stepBlocks}
+use Rattle.row.specs.Samples.{Iq, allFinite}
 use Rattle.row.specs.Envelope.{rowOf, rowLength}
 use Rattle.row.proofs.Steps.{rate-is}
 use Rattle.elements.specs.declared.amplitude.AmplitudeRow.{AmplitudeRow}
@@ -17,10 +17,11 @@ use Rattle.elements.specs.Find.{amplitudeRowOf}
 use Rattle.strong.specs.declared.amplitude.RowAnswer.{RowAnswer}
 use Rattle.strong.specs.declared.amplitude.RowAnswer.the-variants.{Refused, Done}
 use Rattle.questions.specs.Answers.{accepted, refused}
-use Rattle.questions.specs.Questions.{firstNo, ask}
+use Rattle.questions.specs.Questions.{firstNo, ask, countOk, carrierOk, placesOk, workOk}
 use Rattle.strong.specs.Amplitude.{rowQuestions, RowResult, rowRule, rowOutcome}
-use Rattle.questions.proofs.FirstNo.{yes-at, answer}
-use Rattle.questions.proofs.Accepted.{recording-is, work-room, refused-by, accepted-by, never-refused, refused-asked}
+use Rattle.questions.proofs.FirstNo.{yes-at}
+use Rattle.questions.proofs.Accepted.{recording-is, work-room}
+use Rattle.questions.proofs.Calls.{accepted-by, refused-asked, never-refused}
 
 pub record RowAccepted (iq : List Float) (fs : Float) (row work : ℕ) : Type 0 where
   pub iq-ok : Iq iq
@@ -46,10 +47,6 @@ row-result r s h i v w a b c = rw (a, b, c)
 -- ---- what its promise says of a refusal, and of an accepted call
 
 module _ (iq : List Float) (fs hz : Float) (row work : List Float) where
-  pub row-refused : (n : ℕ) (lent : List Float × List Float) → refused n lent ≡ rowRule iq fs hz row work → n ≡ 0 → ⊥
-  unfolding rowRule
-  row-refused n lent e = refused-by _ _ _ n lent e
-
   pub row-done : (r : RowResult) → accepted r ≡ rowRule iq fs hz row work
       → (r .row ≡ amplitudeRowOf iq fs hz) × (r .amplitudes ≡ handed 1 (firsts (rowOf iq fs hz) (rowLength iq fs)) row)
   unfolding rowRule
@@ -63,12 +60,17 @@ module _ (iq : List Float) (fs hz : Float) (row work : List Float) where
   row-counted r e = ap (λ (a : AmplitudeRow). a .amplitudes) (row-done r e .0)
 
   -- its number is that of a question it asks, answered no
-  pub row-number : (n : ℕ) (lent : List Float × List Float) → refused n lent ≡ rowRule iq fs hz row work → List·Memᴰ (ask n false) (rowQuestions iq fs hz (length row) (length work))
+  pub row-number : (n : ℕ) (lent : List Float × List Float) → refused n lent ≡ rowRule iq fs hz row work
+      → List·Memᴰ (ask n false) (rowQuestions iq fs hz (length row) (length work))
   unfolding rowRule
-  row-number n lent e = refused-asked (rowQuestions iq fs hz (length row) (length work)) _ _ n lent e
+  row-number n lent e = refused-asked _ _ _ n lent e
 
-  -- What 01 accepts is never refused: with a yes to each question the answer is Done, with the result of 01.
-  pub row-accepts : ((k : ℕ) → answer (rowQuestions iq fs hz (length row) (length work)) k ≡ true) → (a : RowAnswer) (row-after work-after : List Float) → rowOutcome a row-after work-after ≡ rowRule iq fs hz row work → a ≡ Done (amplitudeRowOf iq fs hz)
+  -- What 01 accepts is never refused: with a yes to each question, 1 to 6, the answer is Done, with the result of 01.
+  pub row-accepts : rateOk fs ≡ true → countOk (length iq) ≡ true → allFinite iq ≡ true → carrierOk fs hz ≡ true
+      → placesOk (rowLength iq fs) (length row) ≡ true → workOk (stepBlocks iq fs) (length work) ≡ true
+      → (a : RowAnswer) (row-after work-after : List Float) → rowOutcome a row-after work-after ≡ rowRule iq fs hz row work
+      → a ≡ Done (amplitudeRowOf iq fs hz)
   unfolding rowRule
-  row-accepts each (Refused n) row-after work-after e = absurd (never-refused (rowQuestions iq fs hz (length row) (length work)) _ _ n _ e each)
-  row-accepts each (Done r) row-after work-after e = ap Done (row-done _ e .0)
+  row-accepts rate count finite carrier places room (Refused n) row-after work-after e =
+      absurd (never-refused _ _ _ n _ e (rate, (count, (finite, (carrier, (places, (room, tt)))))))
+  row-accepts rate count finite carrier places room (Done r) row-after work-after e = ap Done (row-done _ e .0)

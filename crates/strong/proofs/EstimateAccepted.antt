@@ -1,4 +1,5 @@
--- `estimate_strong`: what it goes on with where every answer is yes, and what its promise says. Assumes nothing.
+-- `estimate_strong`: what it, and the run, which asks the same, go on with where every answer is yes, and what its
+-- promise says. Assumes nothing.
 use Prim.Native.Nat.{ℕ, _*_, _/_, _≤_}
 use native.Mathlib.Omega.{arith}
 use mathlib.Core.Path.{_≡_, refl, ap}
@@ -6,8 +7,8 @@ use mathlib.Core.Bool.{true, false}
 use mathlib.Core.List.{List, List·Memᴰ}
 use lib.ListN.{length}
 use lib.Ieee.{Float}
-use Rattle.row.specs.Window.{Rate, stepBlocks}
-use Rattle.row.specs.Samples.{Iq}
+use Rattle.row.specs.Window.{Rate, rateOk, stepBlocks}
+use Rattle.row.specs.Samples.{Iq, allFinite}
 use Rattle.row.proofs.Steps.{rate-is}
 use Rattle.elements.specs.declared.element.KeyedElement.{KeyedElement}
 use Rattle.lists.specs.Records.{Handed, handed}
@@ -21,10 +22,11 @@ use Rattle.fits.proofs.Strong.{strong-counted}
 use Rattle.strong.specs.declared.estimate.EstimateAnswer.{EstimateAnswer}
 use Rattle.strong.specs.declared.estimate.EstimateAnswer.the-variants.{Refused, Done}
 use Rattle.questions.specs.Answers.{accepted, refused}
-use Rattle.questions.specs.Questions.{firstNo, ask}
-use Rattle.strong.specs.Estimate.{estimateQuestions, EstimateResult, estimateRule, estimateOutcome}
-use Rattle.questions.proofs.FirstNo.{yes-at, answer}
-use Rattle.questions.proofs.Accepted.{recording-is, element-places, fit-places, work-room, refused-by, accepted-by, never-refused, refused-asked}
+use Rattle.questions.specs.Questions.{firstNo, ask, countOk, carrierOk, placesOk, workOk, estimateQuestions}
+use Rattle.strong.specs.Estimate.{EstimateResult, estimateRule, estimateOutcome}
+use Rattle.questions.proofs.FirstNo.{yes-at}
+use Rattle.questions.proofs.Accepted.{recording-is, element-places, fit-places, work-room}
+use Rattle.questions.proofs.Calls.{accepted-by, refused-asked, never-refused}
 
 pub record EstimateAccepted (iq : List Float) (fs : Float) (elements fits work : ℕ) : Type 0 where
   pub iq-ok : Iq iq
@@ -67,10 +69,6 @@ module _ (iq : List Float) (fs hint : Float) where
 -- ---- what its promise says of a refusal, and of an accepted call
 
 module _ (iq : List Float) (fs hint : Float) (elements fits work : List Float) where
-  pub estimate-refused : (n : ℕ) (lent : List Float × List Float × List Float) → refused n lent ≡ estimateRule iq fs hint elements fits work → n ≡ 0 → ⊥
-  unfolding estimateRule
-  estimate-refused n lent e = refused-by _ _ _ n lent e
-
   pub estimate-done : (r : EstimateResult) → accepted r ≡ estimateRule iq fs hint elements fits work
       → (firstNo (estimateQuestions iq fs hint (length elements) (length fits) (length work)) ≡ 0) × (r .estimate ≡ strongEstimate iq fs hint)
       × (r .elements ≡ handed ELEMENT (strongElements iq fs hint) elements) × (r .fits ≡ handed FIT (strongFits iq fs hint) fits)
@@ -91,12 +89,18 @@ module _ (iq : List Float) (fs hint : Float) (elements fits work : List Float) w
       rw (told .1) (few, omega arith)
 
   -- its number is that of a question it asks, answered no
-  pub estimate-number : (n : ℕ) (lent : List Float × List Float × List Float) → refused n lent ≡ estimateRule iq fs hint elements fits work → List·Memᴰ (ask n false) (estimateQuestions iq fs hint (length elements) (length fits) (length work))
+  pub estimate-number : (n : ℕ) (lent : List Float × List Float × List Float) → refused n lent ≡ estimateRule iq fs hint elements fits work
+      → List·Memᴰ (ask n false) (estimateQuestions iq fs hint (length elements) (length fits) (length work))
   unfolding estimateRule
-  estimate-number n lent e = refused-asked (estimateQuestions iq fs hint (length elements) (length fits) (length work)) _ _ n lent e
+  estimate-number n lent e = refused-asked _ _ _ n lent e
 
-  -- What 01 accepts is never refused: with a yes to each question the answer is Done, with the result of 01.
-  pub estimate-accepts : ((k : ℕ) → answer (estimateQuestions iq fs hint (length elements) (length fits) (length work)) k ≡ true) → (a : EstimateAnswer) (elements-after fits-after work-after : List Float) → estimateOutcome a elements-after fits-after work-after ≡ estimateRule iq fs hint elements fits work → a ≡ Done (strongEstimate iq fs hint)
+  -- What 01 accepts is never refused: with a yes to each question, 1 to 6, the fifth of two lists, the answer is Done,
+  -- with the result of 01.
+  pub estimate-accepts : rateOk fs ≡ true → countOk (length iq) ≡ true → allFinite iq ≡ true → carrierOk fs hint ≡ true
+      → placesOk (stepBlocks iq fs / 2) (length elements / ELEMENT) ≡ true → placesOk (stepBlocks iq fs / 2) (length fits / FIT) ≡ true
+      → workOk (stepBlocks iq fs) (length work) ≡ true → (a : EstimateAnswer) (elements-after fits-after work-after : List Float)
+      → estimateOutcome a elements-after fits-after work-after ≡ estimateRule iq fs hint elements fits work → a ≡ Done (strongEstimate iq fs hint)
   unfolding estimateRule
-  estimate-accepts each (Refused n) elements-after fits-after work-after e = absurd (never-refused (estimateQuestions iq fs hint (length elements) (length fits) (length work)) _ _ n _ e each)
-  estimate-accepts each (Done d) elements-after fits-after work-after e = ap Done (estimate-done _ e .1)
+  estimate-accepts rate count finite carrier places fit-places room (Refused n) elements-after fits-after work-after e =
+      absurd (never-refused _ _ _ n _ e (rate, (count, (finite, (carrier, (places, (fit-places, (room, tt))))))))
+  estimate-accepts rate count finite carrier places fit-places room (Done d) elements-after fits-after work-after e = ap Done (estimate-done _ e .1)

@@ -5,8 +5,8 @@ use mathlib.Core.Bool.{true, false}
 use mathlib.Core.List.{List, List·Memᴰ}
 use lib.ListN.{length}
 use lib.Ieee.{Float}
-use Rattle.row.specs.Window.{Rate, stepBlocks}
-use Rattle.row.specs.Samples.{Iq}
+use Rattle.row.specs.Window.{Rate, rateOk, stepBlocks}
+use Rattle.row.specs.Samples.{Iq, allFinite}
 use Rattle.row.proofs.Steps.{rate-is}
 use Rattle.elements.specs.declared.element.KeyedElement.{KeyedElement}
 use Rattle.elements.specs.declared.keying.Found.{Found}
@@ -16,10 +16,11 @@ use Rattle.elements.specs.Find.{foundOf, elementsFound}
 use Rattle.strong.specs.declared.find.FindAnswer.{FindAnswer}
 use Rattle.strong.specs.declared.find.FindAnswer.the-variants.{Refused, Done}
 use Rattle.questions.specs.Answers.{accepted, refused}
-use Rattle.questions.specs.Questions.{firstNo, ask}
+use Rattle.questions.specs.Questions.{firstNo, ask, countOk, carrierOk, placesOk, workOk}
 use Rattle.strong.specs.Find.{findQuestions, FindResult, findRule, findOutcome}
-use Rattle.questions.proofs.FirstNo.{yes-at, answer}
-use Rattle.questions.proofs.Accepted.{recording-is, element-places, work-room, refused-by, accepted-by, never-refused, refused-asked}
+use Rattle.questions.proofs.FirstNo.{yes-at}
+use Rattle.questions.proofs.Accepted.{recording-is, element-places, work-room}
+use Rattle.questions.proofs.Calls.{accepted-by, refused-asked, never-refused}
 
 pub record FindAccepted (iq : List Float) (fs : Float) (elements work : ℕ) : Type 0 where
   pub iq-ok : Iq iq
@@ -46,10 +47,6 @@ find-result f g h i v w a b c = rw (a, b, c)
 -- ---- what its promise says of a refusal, and of an accepted call
 
 module _ (iq : List Float) (fs hz : Float) (elements work : List Float) where
-  pub find-refused : (n : ℕ) (lent : List Float × List Float) → refused n lent ≡ findRule iq fs hz elements work → n ≡ 0 → ⊥
-  unfolding findRule
-  find-refused n lent e = refused-by _ _ _ n lent e
-
   pub find-done : (r : FindResult) → accepted r ≡ findRule iq fs hz elements work
       → (firstNo (findQuestions iq fs hz (length elements) (length work)) ≡ 0) × (r .found ≡ foundOf iq fs hz)
       × (r .elements ≡ handed ELEMENT (elementsFound iq fs hz) elements)
@@ -59,12 +56,17 @@ module _ (iq : List Float) (fs hz : Float) (elements work : List Float) where
       (told .0, ap (λ (r : FindResult). r .found) (told .1), ap (λ (r : FindResult). r .elements) (told .1))
 
   -- its number is that of a question it asks, answered no
-  pub find-number : (n : ℕ) (lent : List Float × List Float) → refused n lent ≡ findRule iq fs hz elements work → List·Memᴰ (ask n false) (findQuestions iq fs hz (length elements) (length work))
+  pub find-number : (n : ℕ) (lent : List Float × List Float) → refused n lent ≡ findRule iq fs hz elements work
+      → List·Memᴰ (ask n false) (findQuestions iq fs hz (length elements) (length work))
   unfolding findRule
-  find-number n lent e = refused-asked (findQuestions iq fs hz (length elements) (length work)) _ _ n lent e
+  find-number n lent e = refused-asked _ _ _ n lent e
 
-  -- What 01 accepts is never refused: with a yes to each question the answer is Done, with the result of 01.
-  pub find-accepts : ((k : ℕ) → answer (findQuestions iq fs hz (length elements) (length work)) k ≡ true) → (a : FindAnswer) (elements-after work-after : List Float) → findOutcome a elements-after work-after ≡ findRule iq fs hz elements work → a ≡ Done (foundOf iq fs hz)
+  -- What 01 accepts is never refused: with a yes to each question, 1 to 6, the answer is Done, with the result of 01.
+  pub find-accepts : rateOk fs ≡ true → countOk (length iq) ≡ true → allFinite iq ≡ true → carrierOk fs hz ≡ true
+      → placesOk (stepBlocks iq fs / 2) (length elements / ELEMENT) ≡ true → workOk (stepBlocks iq fs) (length work) ≡ true
+      → (a : FindAnswer) (elements-after work-after : List Float) → findOutcome a elements-after work-after ≡ findRule iq fs hz elements work
+      → a ≡ Done (foundOf iq fs hz)
   unfolding findRule
-  find-accepts each (Refused n) elements-after work-after e = absurd (never-refused (findQuestions iq fs hz (length elements) (length work)) _ _ n _ e each)
-  find-accepts each (Done f) elements-after work-after e = ap Done (find-done _ e .1)
+  find-accepts rate count finite carrier places room (Refused n) elements-after work-after e =
+      absurd (never-refused _ _ _ n _ e (rate, (count, (finite, (carrier, (places, (room, tt)))))))
+  find-accepts rate count finite carrier places room (Done f) elements-after work-after e = ap Done (find-done _ e .1)

@@ -1,12 +1,12 @@
 -- `fit_elements`: what it goes on with where every answer is yes, and what its promise says. Assumes nothing.
-use Prim.Native.Nat.{ℕ, _*_, _≤_}
+use Prim.Native.Nat.{ℕ, _*_, _/_, _≤_}
 use mathlib.Core.Path.{_≡_, refl, ap}
 use mathlib.Core.Bool.{true, false}
 use mathlib.Core.List.{List, List·Memᴰ}
 use lib.ListN.{length}
 use lib.Ieee.{Float}
-use Rattle.row.specs.Window.{Rate, stepBlocks}
-use Rattle.row.specs.Samples.{Iq}
+use Rattle.row.specs.Window.{Rate, rateOk, stepBlocks}
+use Rattle.row.specs.Samples.{Iq, allFinite}
 use Rattle.row.proofs.Steps.{rate-is}
 use Rattle.lists.specs.Records.{Handed, handed}
 use Rattle.elements.specs.Element.{ELEMENT}
@@ -16,11 +16,12 @@ use Rattle.fits.specs.Inner.{AllTimed}
 use Rattle.strong.specs.declared.fit.FitAnswer.{FitAnswer}
 use Rattle.strong.specs.declared.fit.FitAnswer.the-variants.{Refused, Done}
 use Rattle.questions.specs.Answers.{accepted, refused}
-use Rattle.questions.specs.Questions.{firstNo, ask}
+use Rattle.questions.specs.Questions.{firstNo, ask, countOk, carrierOk, placesOk, workOk, elementsOk}
 use Rattle.strong.specs.Fit.{fitQuestions, FitResult, fitsGiven, fitRule, fitOutcome}
-use Rattle.questions.proofs.FirstNo.{yes-at, answer}
+use Rattle.questions.proofs.FirstNo.{yes-at}
 use Rattle.questions.proofs.Given.{all-timed, elements-fit}
-use Rattle.questions.proofs.Accepted.{recording-is, fit-places, work-room, refused-by, accepted-by, never-refused, refused-asked}
+use Rattle.questions.proofs.Accepted.{recording-is, fit-places, work-room}
+use Rattle.questions.proofs.Calls.{accepted-by, refused-asked, never-refused}
 
 pub record FitAccepted (iq : List Float) (fs : Float) (elements : List Float) (count fits work : ℕ) : Type 0 where
   pub iq-ok : Iq iq
@@ -51,10 +52,6 @@ fit-result m n h i v w a b c = rw (a, b, c)
 -- ---- what its promise says of a refusal, and of an accepted call
 
 module _ (iq : List Float) (fs hz : Float) (elements : List Float) (count : ℕ) (fits work : List Float) where
-  pub fit-refused : (n : ℕ) (lent : List Float × List Float) → refused n lent ≡ fitRule iq fs hz elements count fits work → n ≡ 0 → ⊥
-  unfolding fitRule
-  fit-refused n lent e = refused-by _ _ _ n lent e
-
   pub fit-done : (r : FitResult) → accepted r ≡ fitRule iq fs hz elements count fits work
       → (firstNo (fitQuestions iq fs hz elements count (length fits) (length work)) ≡ 0) × (r .fitted ≡ length (fitsGiven iq fs hz elements count))
       × (r .fits ≡ handed FIT (fitsGiven iq fs hz elements count) fits)
@@ -64,12 +61,17 @@ module _ (iq : List Float) (fs hz : Float) (elements : List Float) (count : ℕ)
       (told .0, ap (λ (r : FitResult). r .fitted) (told .1), ap (λ (r : FitResult). r .fits) (told .1))
 
   -- its number is that of a question it asks, answered no
-  pub fit-number : (n : ℕ) (lent : List Float × List Float) → refused n lent ≡ fitRule iq fs hz elements count fits work → List·Memᴰ (ask n false) (fitQuestions iq fs hz elements count (length fits) (length work))
+  pub fit-number : (n : ℕ) (lent : List Float × List Float) → refused n lent ≡ fitRule iq fs hz elements count fits work
+      → List·Memᴰ (ask n false) (fitQuestions iq fs hz elements count (length fits) (length work))
   unfolding fitRule
-  fit-number n lent e = refused-asked (fitQuestions iq fs hz elements count (length fits) (length work)) _ _ n lent e
+  fit-number n lent e = refused-asked _ _ _ n lent e
 
-  -- What 01 accepts is never refused: with a yes to each question the answer is Done, with the result of 01.
-  pub fit-accepts : ((k : ℕ) → answer (fitQuestions iq fs hz elements count (length fits) (length work)) k ≡ true) → (a : FitAnswer) (fits-after work-after : List Float) → fitOutcome a fits-after work-after ≡ fitRule iq fs hz elements count fits work → a ≡ Done (length (fitsGiven iq fs hz elements count))
+  -- What 01 accepts is never refused: with a yes to each question, 1 to 7, the answer is Done, with the result of 01.
+  pub fit-accepts : rateOk fs ≡ true → countOk (length iq) ≡ true → allFinite iq ≡ true → carrierOk fs hz ≡ true
+      → placesOk count (length fits / FIT) ≡ true → workOk (stepBlocks iq fs) (length work) ≡ true → elementsOk elements count ≡ true
+      → (a : FitAnswer) (fits-after work-after : List Float) → fitOutcome a fits-after work-after ≡ fitRule iq fs hz elements count fits work
+      → a ≡ Done (length (fitsGiven iq fs hz elements count))
   unfolding fitRule
-  fit-accepts each (Refused n) fits-after work-after e = absurd (never-refused (fitQuestions iq fs hz elements count (length fits) (length work)) _ _ n _ e each)
-  fit-accepts each (Done m) fits-after work-after e = ap Done (fit-done _ e .1)
+  fit-accepts rate samples finite carrier places room given (Refused n) fits-after work-after e =
+      absurd (never-refused _ _ _ n _ e (rate, (samples, (finite, (carrier, (places, (room, (given, tt))))))))
+  fit-accepts rate samples finite carrier places room given (Done m) fits-after work-after e = ap Done (fit-done _ e .1)

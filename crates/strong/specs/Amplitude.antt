@@ -11,9 +11,9 @@ use Rattle.lists.specs.Records.{Handed, handed, handedNumbers}
 use Rattle.elements.specs.Find.{amplitudeRowOf}
 use Rattle.strong.specs.declared.amplitude.RowAnswer.{RowAnswer}
 use Rattle.strong.specs.declared.amplitude.RowAnswer.the-variants.{Refused, Done}
-use Rattle.questions.specs.Answers.{Outcome, accepted, refused, byNumber}
+use Rattle.questions.specs.Answers.{Outcome, accepted, refused, byQuestions}
 use Rattle.questions.specs.Refusals.{REFUSED_CARRIER, REFUSED_PLACES, REFUSED_WORK}
-use Rattle.questions.specs.Questions.{Asked, ask, firstNo, recordingQuestions, carrierOk, placesOk, workOk}
+use Rattle.questions.specs.Questions.{Asked, ask, recordingQuestions, carrierOk, placesOk, workOk}
 
 -- It asks 1 to 6. A place of the list to be filled is one number, and it needs one per amplitude, B − 7.
 abbrev pub rowQuestions : List Float → Float → Float → ℕ → ℕ → List Asked
@@ -37,6 +37,6 @@ rowOutcome (Done r) row work = accepted (record { row = r; amplitudes = handedNu
 -- row.
 unfoldable pub rowRule : List Float → Float → Float → List Float → List Float → Outcome (List Float × List Float) RowResult
 rowRule iq fs hz row work =
-    byNumber (firstNo (rowQuestions iq fs hz (length row) (length work)))
+    byQuestions (rowQuestions iq fs hz (length row) (length work))
     (record { row = amplitudeRowOf iq fs hz; amplitudes = handed 1 (firsts (rowOf iq fs hz) (rowLength iq fs)) row; work = length work })
     (row, work)

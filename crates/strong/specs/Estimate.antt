@@ -1,9 +1,8 @@
 -- `estimate_strong`, open to callers (01, part 4, with questions 1 to 6). Definitions only.
-use Prim.Native.Nat.{ℕ, _/_}
-use mathlib.Core.List.{List, [], _∷_, _++_}
+use Prim.Native.Nat.{ℕ}
+use mathlib.Core.List.{List}
 use lib.ListN.{length}
 use lib.Ieee.{Float}
-use Rattle.row.specs.Window.{stepBlocks}
 use Rattle.elements.specs.declared.element.KeyedElement.{KeyedElement}
 use Rattle.lists.specs.Records.{Handed, handed}
 use Rattle.elements.specs.Element.{ELEMENT, handedElements}
@@ -13,16 +12,8 @@ use Rattle.fits.specs.List.{FIT, handedFits}
 use Rattle.fits.specs.Estimate.{strongEstimate, strongElements, strongFits}
 use Rattle.strong.specs.declared.estimate.EstimateAnswer.{EstimateAnswer}
 use Rattle.strong.specs.declared.estimate.EstimateAnswer.the-variants.{Refused, Done}
-use Rattle.questions.specs.Answers.{Outcome, accepted, refused, byNumber}
-use Rattle.questions.specs.Refusals.{REFUSED_CARRIER, REFUSED_PLACES, REFUSED_WORK}
-use Rattle.questions.specs.Questions.{Asked, ask, firstNo, recordingQuestions, carrierOk, placesOk, workOk}
-
--- It asks 1 to 6. Each of the two lists to be filled needs floor(B/2) places.
-abbrev pub estimateQuestions : List Float → Float → Float → ℕ → ℕ → ℕ → List Asked
-estimateQuestions iq fs hint elements fits work =
-    let b = stepBlocks iq fs in
-    recordingQuestions iq fs
-    ++ (ask REFUSED_CARRIER (carrierOk fs hint) ∷ ask REFUSED_PLACES (placesOk (b / 2) (elements / ELEMENT)) ∷ ask REFUSED_PLACES (placesOk (b / 2) (fits / FIT)) ∷ ask REFUSED_WORK (workOk b work) ∷ [])
+use Rattle.questions.specs.Answers.{Outcome, accepted, refused, byQuestions}
+use Rattle.questions.specs.Questions.{estimateQuestions}
 
 -- The estimate, the elements and the fits that the lists hand out, and the length of the work slice.
 pub record EstimateResult : Type 0 where
@@ -41,7 +32,7 @@ estimateOutcome (Done e) elements fits work =
 -- the second pass.
 unfoldable pub estimateRule : List Float → Float → Float → List Float → List Float → List Float → Outcome (List Float × List Float × List Float) EstimateResult
 estimateRule iq fs hint elements fits work =
-    byNumber (firstNo (estimateQuestions iq fs hint (length elements) (length fits) (length work)))
+    byQuestions (estimateQuestions iq fs hint (length elements) (length fits) (length work))
     (record {
       estimate = strongEstimate iq fs hint;
       elements = handed ELEMENT (strongElements iq fs hint) elements;

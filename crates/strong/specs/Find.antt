@@ -11,9 +11,9 @@ use Rattle.elements.specs.Element.{ELEMENT, handedElements}
 use Rattle.elements.specs.Find.{foundOf, elementsFound}
 use Rattle.strong.specs.declared.find.FindAnswer.{FindAnswer}
 use Rattle.strong.specs.declared.find.FindAnswer.the-variants.{Refused, Done}
-use Rattle.questions.specs.Answers.{Outcome, accepted, refused, byNumber}
+use Rattle.questions.specs.Answers.{Outcome, accepted, refused, byQuestions}
 use Rattle.questions.specs.Refusals.{REFUSED_CARRIER, REFUSED_PLACES, REFUSED_WORK}
-use Rattle.questions.specs.Questions.{Asked, ask, firstNo, recordingQuestions, carrierOk, placesOk, workOk}
+use Rattle.questions.specs.Questions.{Asked, ask, recordingQuestions, carrierOk, placesOk, workOk}
 
 -- It asks 1 to 6. The list to be filled needs floor(B/2) places.
 abbrev pub findQuestions : List Float → Float → Float → ℕ → ℕ → List Asked
@@ -35,6 +35,6 @@ findOutcome (Done f) elements work = accepted (record { found = f; elements = ha
 -- The first no is the result, and nothing is written; else what is found, and the elements in the list.
 unfoldable pub findRule : List Float → Float → Float → List Float → List Float → Outcome (List Float × List Float) FindResult
 findRule iq fs hz elements work =
-    byNumber (firstNo (findQuestions iq fs hz (length elements) (length work)))
+    byQuestions (findQuestions iq fs hz (length elements) (length work))
     (record { found = foundOf iq fs hz; elements = handed ELEMENT (elementsFound iq fs hz) elements; work = length work })
     (elements, work)

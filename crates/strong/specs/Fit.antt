@@ -10,9 +10,9 @@ use Rattle.fits.specs.declared.fit.ElementFit.{ElementFit}
 use Rattle.fits.specs.List.{FIT, handedFits, fitsOf}
 use Rattle.strong.specs.declared.fit.FitAnswer.{FitAnswer}
 use Rattle.strong.specs.declared.fit.FitAnswer.the-variants.{Refused, Done}
-use Rattle.questions.specs.Answers.{Outcome, accepted, refused, byNumber}
+use Rattle.questions.specs.Answers.{Outcome, accepted, refused, byQuestions}
 use Rattle.questions.specs.Refusals.{REFUSED_CARRIER, REFUSED_PLACES, REFUSED_WORK, REFUSED_GIVEN}
-use Rattle.questions.specs.Questions.{Asked, ask, firstNo, recordingQuestions, carrierOk, placesOk, workOk, elementsOk}
+use Rattle.questions.specs.Questions.{Asked, ask, recordingQuestions, carrierOk, placesOk, workOk, elementsOk}
 
 -- It asks 1 to 7. The list to be filled needs one place per given element.
 abbrev pub fitQuestions : List Float → Float → Float → List Float → ℕ → ℕ → ℕ → List Asked
@@ -39,6 +39,6 @@ fitsGiven iq fs hz elements count = fitsOf iq fs hz (elementsIn elements count)
 unfoldable pub fitRule : List Float → Float → Float → List Float → ℕ → List Float → List Float → Outcome (List Float × List Float) FitResult
 fitRule iq fs hz elements count fits work =
     let given = fitsGiven iq fs hz elements count in
-    byNumber (firstNo (fitQuestions iq fs hz elements count (length fits) (length work)))
+    byQuestions (fitQuestions iq fs hz elements count (length fits) (length work))
     (record { fitted = length given; fits = handed FIT given fits; work = length work })
     (fits, work)

@@ -5,9 +5,9 @@ use mathlib.Core.Path.{_≡_, sym, _∙_}
 use denote.Ref.{now}
 use lib.ListN.{length}
 use borrow.Author.Needs.{needs}
-use Rattle.questions.specs.Questions.{firstNo}
-use Rattle.cancel.specs.Running.{runQuestions, runRule}
-use Rattle.questions.proofs.Accepted.{refuses, accepts}
+use Rattle.questions.specs.Questions.{firstNo, estimateQuestions}
+use Rattle.cancel.specs.Running.{runRule}
+use Rattle.questions.proofs.Calls.{refuses, accepts}
 use Rattle.strong.proofs.EstimateAccepted.{estimate-accepted}
 use Rattle.cancel.proofs.RunAccepted.{run-result}
 use Rattle.cancel.proofs.running.run.Statement.{statement}
@@ -17,9 +17,9 @@ use Rattle.cancel.proofs.running.run.Tie as tie
 all-yes : (c : tie.Else1) →
     let s = c .before .before .before .before .before .before .before in
     firstNo
-    (runQuestions (now (s .args .buf)) (s .args .fs) (s .args .hint-hz) (length (now (s .args .elements))) (length (now (s .args .fits))) (length (now (s .args .work))))
+    (estimateQuestions (now (s .args .buf)) (s .args .fs) (s .args .hint-hz) (length (now (s .args .elements))) (length (now (s .args .fits))) (length (now (s .args .work))))
     ≡ 0
-all-yes c = sym (c .before .run-no .ensures) ∙ c .if1 .left
+all-yes c = sym (c .before .estimate-no .ensures) ∙ c .if1 .left
 
 run-requires : tie.Need-run-requires
 run-requires c κs =
@@ -32,14 +32,14 @@ run-requires c κs =
 
 returns : tie.Need-returns
 unfolding runRule
-returns c = (refuses _ _ _ _ (c .before .run-no .ensures) (c .if1 .taken), c .before .before .before .before .before .before .slice-known .given)
+returns c = (refuses _ _ _ _ (c .before .estimate-no .ensures) (c .if1 .taken), c .before .before .before .before .before .before .slice-known .given)
 
 returns-2 : tie.Need-returns-2
 unfolding runRule
 returns-2 c =
     let done = c .before .before .before .before .before .before .before .before in
     let asked = done .before .before .before .before .before .before .before in (
-      accepts _ _ _ _ _ (asked .before .run-no .ensures) (asked .if1 .left)
+      accepts _ _ _ _ _ (asked .before .estimate-no .ensures) (asked .if1 .left)
           (run-result _ _ _ _ _ _ _ _ _ _ (done .run .ensures .0) (done .run .ensures .1) (done .run .ensures .2) (done .run .ensures .3) (omega arith)),
       asked .before .before .before .before .before .before .slice-known .given,
     )

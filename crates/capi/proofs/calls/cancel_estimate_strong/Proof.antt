@@ -1,17 +1,18 @@
 -- `capi::calls::cancel_estimate_strong` meets its contract. Assumes nothing.
 use borrow.Author.Needs.{needs}
-use Rattle.strong.proofs.EstimateAccepted.{estimate-refused, estimate-done}
+use Rattle.strong.proofs.EstimateAccepted.{estimate-done}
+use Rattle.strong.specs.Estimate.{estimateRule}
 use Rattle.capi.specs.Calls.{estimateCall, estimateTold}
 use Rattle.capi.proofs.Ways.{refused-call, done-call, estimate-told}
 use Rattle.capi.proofs.calls.cancel_estimate_strong.Statement.{statement}
 use Rattle.capi.proofs.calls.cancel_estimate_strong.Tie as tie
 
 returns : tie.Need-returns
-unfolding estimateCall
+unfolding estimateCall estimateRule
 returns c =
     let asked = c .before .before .before .before .before .before .before .before .before in
     let answered = (rw (c .before .no .given .1) at (asked .estimate-strong .ensures .0)) in
-    refused-call estimateTold _ _ _ _ _ answered (estimate-refused _ _ _ _ _ _ _ _ answered)
+    refused-call estimateTold _ _ _ _ _ _ _ answered
 
 returns-2 : tie.Need-returns-2
 unfolding estimateCall

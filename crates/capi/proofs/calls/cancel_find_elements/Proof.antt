@@ -1,17 +1,18 @@
 -- `capi::calls::cancel_find_elements` meets its contract. Assumes nothing.
 use borrow.Author.Needs.{needs}
-use Rattle.strong.proofs.FindAccepted.{find-refused, find-done}
+use Rattle.strong.proofs.FindAccepted.{find-done}
+use Rattle.strong.specs.Find.{findRule}
 use Rattle.capi.specs.Calls.{findCall, findTold}
 use Rattle.capi.proofs.Ways.{refused-call, done-call, find-told}
 use Rattle.capi.proofs.calls.cancel_find_elements.Statement.{statement}
 use Rattle.capi.proofs.calls.cancel_find_elements.Tie as tie
 
 returns : tie.Need-returns
-unfolding findCall
+unfolding findCall findRule
 returns c =
     let asked = c .before .before .before .before .before .before .before in
     let answered = (rw (c .before .no .given .1) at (asked .find-elements .ensures .0)) in
-    refused-call findTold _ _ _ _ _ answered (find-refused _ _ _ _ _ _ _ answered)
+    refused-call findTold _ _ _ _ _ _ _ answered
 
 returns-2 : tie.Need-returns-2
 unfolding findCall

@@ -1,17 +1,18 @@
 -- `capi::calls::cancel_fit_elements` meets its contract. Assumes nothing.
 use borrow.Author.Needs.{needs}
-use Rattle.strong.proofs.FitAccepted.{fit-refused, fit-done}
+use Rattle.strong.proofs.FitAccepted.{fit-done}
+use Rattle.strong.specs.Fit.{fitRule}
 use Rattle.capi.specs.Calls.{fitCall, fitTold}
 use Rattle.capi.proofs.Ways.{refused-call, done-call, fit-told}
 use Rattle.capi.proofs.calls.cancel_fit_elements.Statement.{statement}
 use Rattle.capi.proofs.calls.cancel_fit_elements.Tie as tie
 
 returns : tie.Need-returns
-unfolding fitCall
+unfolding fitCall fitRule
 returns c =
     let asked = c .before .before .before .before .before .before .before in
     let answered = (rw (c .before .no .given .1) at (asked .fit-elements .ensures)) in
-    refused-call fitTold _ _ _ _ _ answered (fit-refused _ _ _ _ _ _ _ _ _ answered)
+    refused-call fitTold _ _ _ _ _ _ _ answered
 
 returns-2 : tie.Need-returns-2
 unfolding fitCall

@@ -1,17 +1,18 @@
 -- `capi::rows::cancel_amplitude_row` meets its contract. Assumes nothing.
 use borrow.Author.Needs.{needs}
-use Rattle.strong.proofs.AmplitudeAccepted.{row-refused, row-counted}
+use Rattle.strong.proofs.AmplitudeAccepted.{row-counted}
+use Rattle.strong.specs.Amplitude.{rowRule}
 use Rattle.capi.specs.Rows.{rowCall, rowTold}
 use Rattle.capi.proofs.Ways.{refused-call, done-call, numbers-told}
 use Rattle.capi.proofs.rows.cancel_amplitude_row.Statement.{statement}
 use Rattle.capi.proofs.rows.cancel_amplitude_row.Tie as tie
 
 returns : tie.Need-returns
-unfolding rowCall
+unfolding rowCall rowRule
 returns c =
     let asked = c .before .before .before .before .before .before .before in
     let answered = (rw (c .before .no .given .1) at (asked .amplitude-row .ensures .0)) in
-    refused-call rowTold _ _ _ _ _ answered (row-refused _ _ _ _ _ _ _ answered)
+    refused-call rowTold _ _ _ _ _ _ _ answered
 
 returns-2 : tie.Need-returns-2
 unfolding rowCall

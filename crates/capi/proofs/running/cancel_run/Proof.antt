@@ -1,7 +1,8 @@
 -- `capi::running::cancel_run` meets its contract. Assumes nothing.
 use borrow.Author.Needs.{needs}
 use Rattle.engine.specs.Run.{runFigures}
-use Rattle.cancel.proofs.RunAccepted.{run-refused, run-done}
+use Rattle.cancel.proofs.RunAccepted.{run-done}
+use Rattle.cancel.specs.Running.{runRule}
 use Rattle.capi.specs.Running.{runCall, runTold}
 use Rattle.capi.proofs.Ways.{refused-call, done-call}
 use Rattle.capi.proofs.RunTold.{run-told}
@@ -9,11 +10,11 @@ use Rattle.capi.proofs.running.cancel_run.Statement.{statement}
 use Rattle.capi.proofs.running.cancel_run.Tie as tie
 
 returns : tie.Need-returns
-unfolding runCall
+unfolding runCall runRule
 returns c =
     let asked = c .before .before .before .before .before .before .before .before .before .before .before in
     let answered = (rw (c .before .no .given .1) at (asked .run .ensures .0)) in
-    (refused-call runTold _ _ _ _ _ answered (run-refused _ _ _ _ _ _ _ _ answered), asked .run .ensures .1)
+    (refused-call runTold _ _ _ _ _ _ _ answered, asked .run .ensures .1)
 
 returns-2 : tie.Need-returns-2
 unfolding runCall runFigures

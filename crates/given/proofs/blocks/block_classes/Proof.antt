@@ -6,7 +6,7 @@ use denote.Ref.{now}
 use lib.ListN.{length, length-take, length-append}
 use borrow.Author.Needs.{needs}
 use Rattle.given.specs.Blocks.{classesRule}
-use Rattle.questions.proofs.Accepted.{refuses, accepts}
+use Rattle.questions.proofs.Calls.{refuses, accepts}
 use Rattle.given.proofs.BlocksAccepted.{ClassesAccepted, classes-accepted, classes-made}
 use Rattle.given.proofs.blocks.block_classes.Statement.{statement}
 use Rattle.given.proofs.blocks.block_classes.Tie as tie

@@ -5,7 +5,7 @@ use denote.Ref.{now}
 use borrow.Author.Needs.{needs}
 use Rattle.questions.specs.Questions.{firstNo}
 use Rattle.given.specs.Removal.{subtractQuestions, subtractRule}
-use Rattle.questions.proofs.Accepted.{refuses, accepts}
+use Rattle.questions.proofs.Calls.{refuses, accepts}
 use Rattle.given.proofs.SubtractAccepted.{subtract-accepted}
 use Rattle.given.proofs.removal.subtract.Statement.{statement}
 use Rattle.given.proofs.removal.subtract.Tie as tie

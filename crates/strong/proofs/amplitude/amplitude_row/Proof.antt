@@ -7,7 +7,7 @@ use lib.ListN.{length}
 use borrow.Author.Needs.{needs}
 use Rattle.questions.specs.Questions.{firstNo}
 use Rattle.strong.specs.Amplitude.{rowQuestions, rowRule}
-use Rattle.questions.proofs.Accepted.{refuses, accepts}
+use Rattle.questions.proofs.Calls.{refuses, accepts}
 use Rattle.strong.proofs.AmplitudeAccepted.{row-accepted, row-result}
 use Rattle.strong.proofs.amplitude.amplitude_row.Statement.{statement}
 use Rattle.strong.proofs.amplitude.amplitude_row.Tie as tie

@@ -5,9 +5,9 @@ use mathlib.Core.Path.{_≡_, sym, _∙_}
 use denote.Ref.{now}
 use lib.ListN.{length}
 use borrow.Author.Needs.{needs}
-use Rattle.questions.specs.Questions.{firstNo}
-use Rattle.strong.specs.Estimate.{estimateQuestions, estimateRule}
-use Rattle.questions.proofs.Accepted.{refuses, accepts}
+use Rattle.questions.specs.Questions.{firstNo, estimateQuestions}
+use Rattle.strong.specs.Estimate.{estimateRule}
+use Rattle.questions.proofs.Calls.{refuses, accepts}
 use Rattle.strong.proofs.EstimateAccepted.{estimate-accepted, estimate-result}
 use Rattle.strong.proofs.estimate.estimate_strong.Statement.{statement}
 use Rattle.strong.proofs.estimate.estimate_strong.Tie as tie

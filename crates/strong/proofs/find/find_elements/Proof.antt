@@ -7,7 +7,7 @@ use lib.ListN.{length}
 use borrow.Author.Needs.{needs}
 use Rattle.questions.specs.Questions.{firstNo}
 use Rattle.strong.specs.Find.{findQuestions, findRule}
-use Rattle.questions.proofs.Accepted.{refuses, accepts}
+use Rattle.questions.proofs.Calls.{refuses, accepts}
 use Rattle.strong.proofs.FindAccepted.{find-accepted, find-result}
 use Rattle.strong.proofs.find.find_elements.Statement.{statement}
 use Rattle.strong.proofs.find.find_elements.Tie as tie

@@ -7,7 +7,7 @@ use lib.ListN.{length}
 use borrow.Author.Needs.{needs}
 use Rattle.questions.specs.Questions.{firstNo}
 use Rattle.strong.specs.Fit.{fitQuestions, fitRule}
-use Rattle.questions.proofs.Accepted.{refuses, accepts}
+use Rattle.questions.proofs.Calls.{refuses, accepts}
 use Rattle.strong.proofs.FitAccepted.{fit-accepted, fit-result}
 use Rattle.strong.proofs.fit.fit_elements.Statement.{statement}
 use Rattle.strong.proofs.fit.fit_elements.Tie as tie

@@ -1,11 +1,11 @@
--- `cancel::running::run_no` meets its contract. Assumes nothing.
+-- `questions::estimate_no` meets its contract. Assumes nothing.
 use borrow.Author.Needs.{needs}
 use Rattle.questions.proofs.FirstNo.{ways}
-use Rattle.cancel.proofs.running.run_no.Statement.{statement}
-use Rattle.cancel.proofs.running.run_no.Tie as tie
+use Rattle.questions.proofs.estimate_no.Statement.{statement}
+use Rattle.questions.proofs.estimate_no.Tie as tie
 
-pub run-no-spec : {M : Type 1} → statement M
-run-no-spec =
+pub estimate-no-spec : {M : Type 1} → statement M
+estimate-no-spec =
     tie.close
     (tie.spec
     (λ c κs. search needs)
