@@ -6,7 +6,7 @@ use Prim.Native.Nat.{ℕ, _+_, _-_, _^_, _≤_, _<_}
 use native.Mathlib.Omega.{arith}
 use mathlib.Core.Path.{_≡_, refl, sym, ap, _∙_}
 use mathlib.Core.Logic.{_≢_, _⊎_, ⊎-elim}
-use mathlib.Core.Bool.{Bool, true, false, not, cond}
+use mathlib.Core.Bool.{Bool, true, false, not}
 use mathlib.Core.List.{List, [], map, List·Memᴰ}
 use lib.ListN.{length, length-map, getD}
 use lib.Ieee.{Float, nan, le}
@@ -22,7 +22,6 @@ use Rattle.row.proofs.Means.{blocks-short}
 use Rattle.rank.specs.Order.{minusZero}
 use Rattle.rank.proofs.Sorted.{every-at}
 use Rattle.float.proofs.Amounts.{Amount}
-use Rattle.elements.specs.declared.element.KeyedElement.{KeyedElement}
 use Rattle.elements.specs.Keying.{LongKeyDowns, RowCounts, noKeyDowns}
 use Rattle.elements.specs.declared.threshold.Threshold.the-variants.{At, Absent}
 use Rattle.elements.specs.Find.{thresholdOf, foundOf}

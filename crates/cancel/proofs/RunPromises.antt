@@ -87,10 +87,10 @@ module _ (buf : List Float) (fs hint : Float) (elements fits work : List Float) 
   fits-out-are = fits-read fits-after fits _ _ (run-done buf fs hint elements fits work _ promise .4)
 
   -- what the run goes on with is what `estimate_strong` goes on with, which asks the same
-  iq-ok : Iq buf
+  pub iq-ok : Iq buf
   iq-ok = estimate-accepted buf fs hint _ _ _ (run-done buf fs hint elements fits work _ promise .0) .iq-ok
 
-  rate-ok : Rate fs
+  pub rate-ok : Rate fs
   rate-ok = estimate-accepted buf fs hint _ _ _ (run-done buf fs hint elements fits work _ promise .0) .rate-ok
 
   -- ---- The final estimate: the carrier is refined from the first pass, and the rest is the second pass at it.

@@ -3,6 +3,9 @@
 use cancel::EstimateAnswer;
 use cancel::FindAnswer;
 use cancel::FitAnswer;
+use figures::ESTIMATE_FIGURES;
+use figures::FIND_FIGURES;
+use figures::FIT_FIGURES;
 use figures::of_estimate;
 use figures::of_find;
 use figures::of_fit;
@@ -20,7 +23,7 @@ pub extern "C" fn cancel_find_elements(
     carrier_hz: f64,
     elements: &mut [f64],
     work: &mut [f64],
-    figures: &mut [f64; 4],
+    figures: &mut [f64; FIND_FIGURES],
 ) -> u64
     ensures { λ r. ⌜ findCalled r (foundOf (now (iq .entry)) fs «carrier_hz» .listed) (now (elements .exit)) (now (work .exit)) (now (figures .exit))
         ≡ findCall (now (iq .entry)) fs «carrier_hz» (now (elements .entry)) (now (work .entry)) (now (figures .entry)) ⌝ }
@@ -43,7 +46,7 @@ pub extern "C" fn cancel_fit_elements(
     element_count: usize,
     fits: &mut [f64],
     work: &mut [f64],
-    figures: &mut [f64; 1],
+    figures: &mut [f64; FIT_FIGURES],
 ) -> u64
     ensures { λ r. ⌜ fitCalled r (length (fitsGiven (now (iq .entry)) fs «carrier_hz» (now (elements .entry)) «element_count»))
         (now (fits .exit)) (now (work .exit)) (now (figures .exit))
@@ -66,7 +69,7 @@ pub extern "C" fn cancel_estimate_strong(
     elements: &mut [f64],
     fits: &mut [f64],
     work: &mut [f64],
-    figures: &mut [f64; 7],
+    figures: &mut [f64; ESTIMATE_FIGURES],
 ) -> u64
     ensures { λ r. ⌜ estimateCalled r (strongEstimate (now (iq .entry)) fs «hint_hz») (now (elements .exit)) (now (fits .exit)) (now (work .exit)) (now (figures .exit))
         ≡ estimateCall (now (iq .entry)) fs «hint_hz» (now (elements .entry)) (now (fits .entry)) (now (work .entry)) (now (figures .entry)) ⌝ }

@@ -1,5 +1,6 @@
 // The hypothesis, for C.
 use cancel::SecondCarrierEvidence;
+use figures::CLASSIFY_FIGURES;
 use figures::given_offset;
 use figures::of_hypothesis;
 ghost use mathlib.Core.Path.{_≡_};
@@ -13,7 +14,7 @@ pub extern "C" fn cancel_classify(
     present: u64,
     offset_hz: f64,
     coherence: f64,
-    figures: &mut [f64; 2],
+    figures: &mut [f64; CLASSIFY_FIGURES],
 ) -> u64
     ensures { λ r. ⌜ classifyCalled r (now (figures .exit)) ≡ classifyCall «gap_blocks» «hot_fraction» present «offset_hz» coherence ⌝ }
 {

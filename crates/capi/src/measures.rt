@@ -1,6 +1,8 @@
 // The measures at a given estimate, for C: each returns 0 or a refusal's number, and writes figures where it returns 0.
 use cancel::EvidenceAnswer;
 use cancel::ResidualAnswer;
+use figures::EVIDENCE_FIGURES;
+use figures::RESIDUAL_FIGURES;
 use figures::of_evidence;
 use figures::of_residual;
 ghost use mathlib.Core.Path.{_≡_};
@@ -17,7 +19,7 @@ pub extern "C" fn cancel_residual_check(
     fits: &[f64],
     fit_count: usize,
     work: &mut [f64],
-    figures: &mut [f64; 5],
+    figures: &mut [f64; RESIDUAL_FIGURES],
 ) -> u64
     ensures { λ r. ⌜ residualCalled r (now (work .exit)) (now (figures .exit))
         ≡ residualCall (now (iq .entry)) fs «carrier_hz» «carrier_step_hz» (now (elements .entry)) «element_count» (now (fits .entry)) «fit_count» (now (work .entry)) (now (figures .entry)) ⌝ }
@@ -52,7 +54,7 @@ pub extern "C" fn cancel_second_carrier_evidence(
     fits: &[f64],
     fit_count: usize,
     work: &mut [f64],
-    figures: &mut [f64; 5],
+    figures: &mut [f64; EVIDENCE_FIGURES],
 ) -> u64
     ensures { λ r. ⌜ evidenceCalled r (now (work .exit)) (now (figures .exit))
         ≡ evidenceCall (now (iq .entry)) fs «carrier_hz» «carrier_step_hz» (now (elements .entry)) «element_count» (now (fits .entry)) «fit_count» (now (work .entry)) (now (figures .entry)) ⌝ }

@@ -2,6 +2,8 @@
 // writes figures where it returns 0.
 use cancel::ClassesAnswer;
 use cancel::RowAnswer;
+use figures::CLASSES_FIGURES;
+use figures::ROW_FIGURES;
 use figures::of_classes;
 use figures::of_row;
 ghost use mathlib.Core.Path.{_≡_};
@@ -16,7 +18,7 @@ pub extern "C" fn cancel_amplitude_row(
     carrier_hz: f64,
     row: &mut [f64],
     work: &mut [f64],
-    figures: &mut [f64; 3],
+    figures: &mut [f64; ROW_FIGURES],
 ) -> u64
     ensures { λ r. ⌜ rowCalled r (rowLength (now (iq .entry)) fs) (now (row .exit)) (now (work .exit)) (now (figures .exit))
         ≡ rowCall (now (iq .entry)) fs «carrier_hz» (now (row .entry)) (now (work .entry)) (now (figures .entry)) ⌝ }
@@ -41,7 +43,7 @@ pub extern "C" fn cancel_block_classes(
     fits: &[f64],
     fit_count: usize,
     classes: &mut [f64],
-    figures: &mut [f64; 5],
+    figures: &mut [f64; CLASSES_FIGURES],
 ) -> u64
     ensures { λ r. ⌜ classesCalled r (blocksIn «iq_len» fs) (now (classes .exit)) (now (figures .exit))
         ≡ classesCall «iq_len» fs «carrier_hz» «carrier_step_hz» (now (elements .entry)) «element_count» (now (fits .entry)) «fit_count» (now (classes .entry)) (now (figures .entry)) ⌝ }

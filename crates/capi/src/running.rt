@@ -1,5 +1,6 @@
 // The run, for C: it returns 0 or a refusal's number, and writes its figures where it returns 0.
 use cancel::RunAnswer;
+use figures::RUN_FIGURES;
 use figures::of_run;
 ghost use mathlib.Core.Path.{_≡_};
 ghost use Rattle.row.specs.Samples.{Singles};
@@ -15,7 +16,7 @@ pub extern "C" fn cancel_run(
     elements: &mut [f64],
     fits: &mut [f64],
     work: &mut [f64],
-    figures: &mut [f64; 28],
+    figures: &mut [f64; RUN_FIGURES],
 ) -> u64
     ensures { λ r. ⌜ runCalled r (strongEstimate (now (buf .entry)) fs «hint_hz») (now (buf .exit)) (now (elements .exit)) (now (fits .exit)) (now (work .exit)) (now (figures .exit))
         ≡ runCall (now (buf .entry)) fs «hint_hz» (now (elements .entry)) (now (fits .entry)) (now (work .entry)) (now (figures .entry)) ⌝ }

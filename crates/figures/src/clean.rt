@@ -1,11 +1,13 @@
 // The figure of clean, and a residual check that is given as its figures.
 use crate::flag::flag;
+use crate::places::CHECK_FIGURES;
+use crate::places::CLEAN_FIGURES;
 use measure::ResidualCheck;
 ghost use mathlib.Core.Path.{_≡_};
 ghost use Rattle.figures.specs.Clean.{givenCheck, cleanFigures};
 
 // Of the five figures the two ratios count. The three counts of blocks change no answer of clean and are not read.
-pub fn given_check(check: &[f64; 5]) -> ResidualCheck
+pub fn given_check(check: &[f64; CHECK_FIGURES]) -> ResidualCheck
     ensures { λ r. ⌜ r ≡ givenCheck (now (check .entry)) ⌝ }
 {
     ResidualCheck {
@@ -17,7 +19,7 @@ pub fn given_check(check: &[f64; 5]) -> ResidualCheck
     }
 }
 
-pub fn of_clean(clean: bool) -> [f64; 1]
+pub fn of_clean(clean: bool) -> [f64; CLEAN_FIGURES]
     ensures { λ r. ⌜ r ≡ cleanFigures clean ⌝ }
 {
     [flag(clean)]

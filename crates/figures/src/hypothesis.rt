@@ -1,4 +1,5 @@
 // The figures of a hypothesis, and the offset of an evidence that is given as figures.
+use crate::places::CLASSIFY_FIGURES;
 use measure::Hypothesis;
 use measure::Offset;
 ghost use mathlib.Core.Path.{_≡_};
@@ -33,7 +34,7 @@ pub fn case_of(h: Hypothesis) -> HypothesisCase
     }
 }
 
-pub fn of_hypothesis(h: Hypothesis) -> [f64; 2]
+pub fn of_hypothesis(h: Hypothesis) -> [f64; CLASSIFY_FIGURES]
     ensures { λ r. ⌜ r ≡ hypothesisFigures h ⌝ }
 {
     let c = case_of(h);

@@ -2,10 +2,10 @@
 // answers are compared by them.
 mod calls;
 mod clean;
-mod count;
 mod flag;
 mod hypothesis;
 mod measures;
+mod places;
 mod rows;
 mod running;
 
@@ -20,6 +20,17 @@ pub use hypothesis::given_offset;
 pub use hypothesis::of_hypothesis;
 pub use measures::of_evidence;
 pub use measures::of_residual;
+pub use places::CHECK_FIGURES;
+pub use places::CLASSES_FIGURES;
+pub use places::CLASSIFY_FIGURES;
+pub use places::CLEAN_FIGURES;
+pub use places::ESTIMATE_FIGURES;
+pub use places::EVIDENCE_FIGURES;
+pub use places::FIND_FIGURES;
+pub use places::FIT_FIGURES;
+pub use places::RESIDUAL_FIGURES;
+pub use places::ROW_FIGURES;
+pub use places::RUN_FIGURES;
 pub use rows::of_classes;
 pub use rows::of_row;
 pub use running::of_run;

@@ -1,20 +1,22 @@
 // The figures of the measures at a given estimate.
-use crate::count::count;
+use crate::places::EVIDENCE_FIGURES;
+use crate::places::RESIDUAL_FIGURES;
+use float::from_whole;
 use measure::Offset;
 use measure::ResidualCheck;
 use measure::SecondCarrierEvidence;
 ghost use mathlib.Core.Path.{_≡_};
 ghost use Rattle.figures.specs.Measures.{residualFigures, presentOf, hertzOf, evidenceFigures};
 
-pub fn of_residual(r: ResidualCheck) -> [f64; 5]
+pub fn of_residual(r: ResidualCheck) -> [f64; RESIDUAL_FIGURES]
     ensures { λ a. ⌜ a ≡ residualFigures r ⌝ }
 {
     [
         r.edge_over_neighbour_db,
         r.interior_over_neighbour_db,
-        count(r.edge_blocks),
-        count(r.interior_blocks),
-        count(r.gap_blocks),
+        from_whole(r.edge_blocks),
+        from_whole(r.interior_blocks),
+        from_whole(r.gap_blocks),
     ]
 }
 
@@ -38,12 +40,12 @@ pub fn hertz(o: Offset) -> f64
     }
 }
 
-pub fn of_evidence(e: SecondCarrierEvidence) -> [f64; 5]
+pub fn of_evidence(e: SecondCarrierEvidence) -> [f64; EVIDENCE_FIGURES]
     ensures { λ r. ⌜ r ≡ evidenceFigures e ⌝ }
 {
     let offset = e.offset_hz;
     [
-        count(e.gap_blocks),
+        from_whole(e.gap_blocks),
         e.hot_fraction,
         present(offset),
         hertz(offset),

@@ -1,7 +1,9 @@
 // The figures of the amplitude row with its threshold, and of the blocks' classes.
-use crate::count::count;
+use crate::places::CLASSES_FIGURES;
+use crate::places::ROW_FIGURES;
 use elements::AmplitudeRow;
 use elements::Threshold;
+use float::from_whole;
 use given::BlockClasses;
 ghost use mathlib.Core.Path.{_≡_};
 ghost use Rattle.figures.specs.Rows.{thresholdPresent, thresholdValue, rowFigures, classesFigures};
@@ -26,26 +28,26 @@ fn threshold_value(t: Threshold) -> f64
     }
 }
 
-pub fn of_row(row: AmplitudeRow) -> [f64; 3]
+pub fn of_row(row: AmplitudeRow) -> [f64; ROW_FIGURES]
     ensures { λ r. ⌜ r ≡ rowFigures row ⌝ }
 {
     let threshold = row.threshold;
     [
-        count(row.amplitudes),
+        from_whole(row.amplitudes),
         threshold_present(threshold),
         threshold_value(threshold),
     ]
 }
 
-pub fn of_classes(b: BlockClasses) -> [f64; 5]
+pub fn of_classes(b: BlockClasses) -> [f64; CLASSES_FIGURES]
     ensures { λ r. ⌜ r ≡ classesFigures b ⌝ }
 {
     let counts = b.counts;
     [
-        count(b.blocks),
-        count(counts.edge),
-        count(counts.interior),
-        count(counts.gap),
-        count(counts.other),
+        from_whole(b.blocks),
+        from_whole(counts.edge),
+        from_whole(counts.interior),
+        from_whole(counts.gap),
+        from_whole(counts.other),
     ]
 }

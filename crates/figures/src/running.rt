@@ -1,14 +1,15 @@
 // The figures of a run.
-use crate::count::count;
 use crate::flag::flag;
 use crate::hypothesis::case_of;
 use crate::measures::hertz;
 use crate::measures::present;
+use crate::places::RUN_FIGURES;
 use engine::Figures;
+use float::from_whole;
 ghost use mathlib.Core.Path.{_≡_};
 ghost use Rattle.figures.specs.Running.{ranFigures};
 
-pub fn of_run(f: Figures) -> [f64; 28]
+pub fn of_run(f: Figures) -> [f64; RUN_FIGURES]
     ensures { λ r. ⌜ r ≡ ranFigures f ⌝ }
 {
     let estimate = f.estimate;
@@ -20,27 +21,27 @@ pub fn of_run(f: Figures) -> [f64; 28]
     let hypothesis = f.hypothesis;
     let h = case_of(hypothesis);
     [
-        count(f.samples),
-        count(f.window),
-        count(found.key_downs),
-        count(found.listed),
-        count(found.short),
-        count(estimate.fitted),
-        count(f.skipped),
-        count(found.airtime),
-        count(f.blocks),
-        count(classes.edge),
-        count(classes.interior),
-        count(classes.gap),
-        count(classes.other),
+        from_whole(f.samples),
+        from_whole(f.window),
+        from_whole(found.key_downs),
+        from_whole(found.listed),
+        from_whole(found.short),
+        from_whole(estimate.fitted),
+        from_whole(f.skipped),
+        from_whole(found.airtime),
+        from_whole(f.blocks),
+        from_whole(classes.edge),
+        from_whole(classes.interior),
+        from_whole(classes.gap),
+        from_whole(classes.other),
         estimate.carrier_hz,
         estimate.carrier_step_hz,
         residual.edge_over_neighbour_db,
         residual.interior_over_neighbour_db,
-        count(residual.edge_blocks),
-        count(residual.interior_blocks),
-        count(residual.gap_blocks),
-        count(evidence.gap_blocks),
+        from_whole(residual.edge_blocks),
+        from_whole(residual.interior_blocks),
+        from_whole(residual.gap_blocks),
+        from_whole(evidence.gap_blocks),
         evidence.hot_fraction,
         present(offset),
         hertz(offset),

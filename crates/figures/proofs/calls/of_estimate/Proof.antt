@@ -4,7 +4,7 @@ use Rattle.figures.proofs.calls.of_estimate.Statement.{statement}
 use Rattle.figures.proofs.calls.of_estimate.Tie as tie
 
 returns : tie.Need-returns
-returns c = rw (c .before .before .before .before .count .ensures, c .before .before .before .count2 .ensures, c .before .before .count3 .ensures, c .before .count4 .ensures, c .count5 .ensures)
+returns c = rw (c .before .before .before .before .from-whole .ensures, c .before .before .before .from-whole2 .ensures, c .before .before .from-whole3 .ensures, c .before .from-whole4 .ensures, c .from-whole5 .ensures)
 
 pub of-estimate-spec : {M : Type 1} → statement M
 of-estimate-spec =

@@ -15,27 +15,27 @@ returns c =
     let counted = measured .before .before .before .before in
     let first = counted .before .before .before .before .before .before .before .before .before .before .before .before in
     let case = first .before .case-of in
-    same (first .count .ensures)
-    (same (counted .before .before .before .before .before .before .before .before .before .before .before .count2 .ensures)
-    (same (counted .before .before .before .before .before .before .before .before .before .before .count3 .ensures)
-    (same (counted .before .before .before .before .before .before .before .before .before .count4 .ensures)
-    (same (counted .before .before .before .before .before .before .before .before .count5 .ensures)
-    (same (counted .before .before .before .before .before .before .before .count6 .ensures)
-    (same (counted .before .before .before .before .before .before .count7 .ensures)
-    (same (counted .before .before .before .before .before .count8 .ensures)
-    (same (counted .before .before .before .before .count9 .ensures)
-    (same (counted .before .before .before .count10 .ensures)
-    (same (counted .before .before .count11 .ensures)
-    (same (counted .before .count12 .ensures)
-    (same (counted .count13 .ensures)
+    same (first .from-whole .ensures)
+    (same (counted .before .before .before .before .before .before .before .before .before .before .before .from-whole2 .ensures)
+    (same (counted .before .before .before .before .before .before .before .before .before .before .from-whole3 .ensures)
+    (same (counted .before .before .before .before .before .before .before .before .before .from-whole4 .ensures)
+    (same (counted .before .before .before .before .before .before .before .before .from-whole5 .ensures)
+    (same (counted .before .before .before .before .before .before .before .from-whole6 .ensures)
+    (same (counted .before .before .before .before .before .before .from-whole7 .ensures)
+    (same (counted .before .before .before .before .before .from-whole8 .ensures)
+    (same (counted .before .before .before .before .from-whole9 .ensures)
+    (same (counted .before .before .before .from-whole10 .ensures)
+    (same (counted .before .before .from-whole11 .ensures)
+    (same (counted .before .from-whole12 .ensures)
+    (same (counted .from-whole13 .ensures)
     (same refl
     (same refl
     (same refl
     (same refl
-    (same (measured .before .before .before .count14 .ensures)
-    (same (measured .before .before .count15 .ensures)
-    (same (measured .before .count16 .ensures)
-    (same (measured .count17 .ensures)
+    (same (measured .before .before .before .from-whole14 .ensures)
+    (same (measured .before .before .from-whole15 .ensures)
+    (same (measured .before .from-whole16 .ensures)
+    (same (measured .from-whole17 .ensures)
     (same refl
     (same (c .before .before .present .ensures)
     (same (c .before .hertz .ensures)
