@@ -54,6 +54,21 @@ pub struct ResidualCheck {
 
 impl ResidualCheck {
     /// Are both ratios at or under their thresholds? It refuses nothing, and takes any numbers.
+    ///
+    /// ```
+    /// use cancel::{ResidualCheck, CLEAN_EDGE_OVER_NEIGHBOUR_DB, CLEAN_INTERIOR_OVER_NEIGHBOUR_DB};
+    ///
+    /// let check = ResidualCheck {
+    ///     edge_over_neighbour_db: CLEAN_EDGE_OVER_NEIGHBOUR_DB,
+    ///     interior_over_neighbour_db: CLEAN_INTERIOR_OVER_NEIGHBOUR_DB,
+    ///     edge_blocks: 3,
+    ///     interior_blocks: 5,
+    ///     gap_blocks: 200,
+    /// };
+    /// assert!(check.clean());
+    /// assert!(!ResidualCheck { edge_over_neighbour_db: -6.99, ..check }.clean());
+    /// assert!(!ResidualCheck { interior_over_neighbour_db: f64::NAN, ..check }.clean());
+    /// ```
     #[must_use]
     pub fn clean(&self) -> bool {
         let mut figures = [0.0; residual::COUNT];
