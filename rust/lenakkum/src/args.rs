@@ -61,10 +61,10 @@ pub struct Run {
     pieces: Option<Extent>,
     /// Report as JSON, with every figure, key-down and fit; one line for each recording
     #[arg(long, conflicts_with = "csv")]
-    pub json: bool,
+    json: bool,
     /// Report as CSV: a line with the columns' names, then a row for each recording
     #[arg(long)]
-    pub csv: bool,
+    csv: bool,
     /// Say after each report why the sender was taken off or the recording kept: four conditions, values and limits
     #[arg(long)]
     pub explain: bool,
@@ -87,7 +87,26 @@ pub struct Run {
     pub statement: bool,
 }
 
+/// How a run is reported.
+#[derive(Clone, Copy, PartialEq)]
+pub enum Form {
+    Report,
+    /// A line, among several.
+    Line,
+    Json,
+    Csv,
+}
+
 impl Run {
+    pub fn form(&self) -> Form {
+        match (self.json, self.csv) {
+            (true, _) => Form::Json,
+            (_, true) => Form::Csv,
+            _ if self.several() => Form::Line,
+            _ => Form::Report,
+        }
+    }
+
     pub fn several(&self) -> bool {
         self.files.len() > 1
     }

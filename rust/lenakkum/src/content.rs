@@ -28,18 +28,18 @@ pub fn checked(name: &str, first: &[u8], datatype: Datatype) -> Result<(), Probl
 fn kind(first: &[u8], datatype: Datatype) -> Option<Kind> {
     let at = |place: usize, bytes: &[u8]| first.get(place..place + bytes.len()) == Some(bytes);
     let riff = at(0, b"RIFF") || at(0, b"RF64") || at(0, b"BW64");
-    match () {
-        _ if riff && at(8, b"WAVE") => Some(Kind::Sound("wav")),
-        _ if at(0, b"FORM") && (at(8, b"AIFF") || at(8, b"AIFC")) => Some(Kind::Sound("aiff")),
-        _ if at(0, b"fLaC") => Some(Kind::Sound("flac")),
-        _ if at(0, b"OggS") => Some(Kind::Sound("ogg")),
-        _ if at(257, b"ustar") => Some(Kind::Tar),
-        _ if at(0, b"\x1f\x8b\x08") && first.get(3).map_or(false, |flags| flags & 0xe0 == 0) => Some(Kind::Gzip),
-        _ if at(0, b"PK\x03\x04") => Some(Kind::Zip),
-        _ if at(0, b"\x93NUMPY") => Some(Kind::Numpy),
-        _ if !datatype.is_of_bytes() && is_text(first) => Some(Kind::Text),
-        _ => None,
-    }
+    let kinds = [
+        (riff && at(8, b"WAVE"), Kind::Sound("wav")),
+        (at(0, b"FORM") && (at(8, b"AIFF") || at(8, b"AIFC")), Kind::Sound("aiff")),
+        (at(0, b"fLaC"), Kind::Sound("flac")),
+        (at(0, b"OggS"), Kind::Sound("ogg")),
+        (at(257, b"ustar"), Kind::Tar),
+        (at(0, b"\x1f\x8b\x08") && first.get(3).map_or(false, |flags| flags & 0xe0 == 0), Kind::Gzip),
+        (at(0, b"PK\x03\x04"), Kind::Zip),
+        (at(0, b"\x93NUMPY"), Kind::Numpy),
+        (!datatype.is_of_bytes() && is_text(first), Kind::Text),
+    ];
+    kinds.into_iter().find(|(is, _)| *is).map(|(_, kind)| kind)
 }
 
 /// Is all of it what a text has? The last character may be cut.

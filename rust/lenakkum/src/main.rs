@@ -25,6 +25,7 @@ mod sigmf;
 mod statement;
 mod stretches;
 mod tables;
+mod told;
 mod writing;
 
 use console::Console;

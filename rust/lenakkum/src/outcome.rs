@@ -3,8 +3,8 @@
 use crate::numbers;
 use crate::page::Section;
 use crate::problem::Problem;
-use crate::sigmf::Told;
 use crate::statement::Statement;
+use crate::told::Told;
 
 /// A recording, or a piece of one, as it is spoken of.
 pub struct Subject {

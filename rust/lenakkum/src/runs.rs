@@ -1,6 +1,6 @@
 //! Runs recordings, and says what came of each.
 
-use crate::args::Run;
+use crate::args::{Form, Run};
 use crate::console::Console;
 use crate::many;
 use crate::names;
@@ -23,7 +23,7 @@ use std::process::ExitCode;
 /// Runs all that the command line names.
 pub fn run(args: &Run) -> Result<ExitCode, Problem> {
     let mut console = Console::new(args.files.len(), args.to_standard_output());
-    if args.csv {
+    if args.form() == Form::Csv {
         console.say(&tables::csv_header())?;
     }
     if args.several() {
@@ -94,10 +94,10 @@ fn subject(args: &Run, source: &Source, part: &Part) -> Subject {
 
 fn not_read(args: &Run, path: &Path, problem: Problem) -> Outcome {
     let name = reading::name(path);
-    let said = match () {
-        _ if args.json => tables::json_of_problem(&name, None, &problem),
-        _ if args.csv => tables::csv_of_problem(&name, None, &problem),
-        _ => String::new(),
+    let said = match args.form() {
+        Form::Json => tables::json_of_problem(&name, None, &problem),
+        Form::Csv => tables::csv_of_problem(&name, None, &problem),
+        Form::Report | Form::Line => String::new(),
     };
     let section = args.page.as_ref().map(|_| Section::of_problem(&name, &problem));
     Outcome { said, left: None, problem: Some(problem), section }
@@ -180,20 +180,20 @@ fn section(
 
 /// What is said of a run.
 fn said(args: &Run, subject: &Subject, ran: &Ran<'_>) -> String {
-    match () {
-        _ if args.json => tables::json(subject, ran),
-        _ if args.csv => tables::csv(subject, ran),
-        _ if args.several() => report::line(subject, ran),
-        _ => report::text(subject, ran),
+    match args.form() {
+        Form::Json => tables::json(subject, ran),
+        Form::Csv => tables::csv(subject, ran),
+        Form::Line => report::line(subject, ran),
+        Form::Report => report::text(subject, ran),
     }
 }
 
 /// What is said of samples that were refused, or of a run that could not be written.
 fn said_of(args: &Run, subject: &Subject, problem: &Problem) -> String {
-    match problem.refusal() {
-        _ if args.json => tables::json_of_problem(&subject.name, Some(subject), problem),
-        _ if args.csv => tables::csv_of_problem(&subject.name, Some(subject), problem),
-        Some(refusal) if !args.several() => report::refused(subject, refusal),
-        _ => String::new(),
+    match (args.form(), problem.refusal()) {
+        (Form::Json, _) => tables::json_of_problem(&subject.name, Some(subject), problem),
+        (Form::Csv, _) => tables::csv_of_problem(&subject.name, Some(subject), problem),
+        (Form::Report, Some(refusal)) => report::refused(subject, refusal),
+        (Form::Report | Form::Line, _) => String::new(),
     }
 }
