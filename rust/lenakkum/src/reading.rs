@@ -149,7 +149,9 @@ impl Source {
         self.read += read.map_err(|e| Problem::with(&self.name, e))? as u64;
         if bytes.len() % size != 0 {
             let (all, name) = (self.read, self.datatype.name());
-            let why = format!("its {all} bytes are not a whole number of samples ({name}: {size} bytes each)");
+            let why =
+                format!("its {all} bytes are not a whole number of samples ({name}: {size} bytes each): see that it");
+            let why = format!("{why} is whole and of that type (--format names another)");
             return Err(Problem::with(&self.name, why));
         }
         Ok(self.datatype.samples(&bytes))

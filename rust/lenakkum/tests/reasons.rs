@@ -28,15 +28,17 @@ fn kept_because(folder: &Path, words: &str) -> (Value, Vec<usize>) {
 }
 
 /// Recordings of which one condition fails and no other, and one of which none does.
-fn alone(folder: &Path) -> [(&'static str, Option<usize>); 7] {
+fn alone(folder: &Path) -> [(&'static str, Option<usize>); 8] {
     fs::write(folder.join("two.cf32"), two()).unwrap();
     fs::write(folder.join("near.cf32"), bytes(valley(21, 4.0, 5e-3))).unwrap();
     fs::write(folder.join("few.cf32"), bytes(valley(19, 60.0, 5e-3))).unwrap();
+    fs::write(folder.join("enough.cf32"), bytes(valley(20, 60.0, 5e-3))).unwrap();
     fs::write(folder.join("hard.cf32"), bytes(valley(21, 60.0, 1e-4))).unwrap();
     [
         ("two.cf32", None),
         ("near.cf32", Some(0)),
         ("few.cf32", Some(1)),
+        ("enough.cf32", None),
         ("two.cf32 --hint 700", Some(2)),
         ("two.cf32 --hint -5.2", Some(2)),
         ("two.cf32 --hint -4.8", None),
@@ -72,6 +74,23 @@ fn reasons_are_there_exactly_where_a_recording_was_kept() {
         }
     }
     assert!(taken >= 2 && kept >= 20, "{taken} taken, {kept} kept");
+}
+
+/// However near a value lies to its limit, what is said of it lies on the same side.
+#[test]
+fn values_are_said_on_their_side_of_the_limit() {
+    let folder = folder("side");
+    fs::write(folder.join("two.cf32"), two()).unwrap();
+    let mut sides = Vec::new();
+    for hint in ["-5.1", "-5.004", "-5.0004", "-4.996", "-4.9996", "5.0000001", "4.9999999"] {
+        let said = text(&lenakkum(&folder, &format!("run two.cf32 --rate 3000 --hint {hint} --explain")).stdout);
+        let line = said.lines().find(|line| line.contains("the carrier was found at")).unwrap();
+        let step: f64 = line.split(" Hz, ").nth(1).unwrap().split(' ').next().unwrap().parse().unwrap();
+        assert_eq!(step > 5.0, line.starts_with("  fails: "), "{line}");
+        assert!((step - 5.0).abs() < 0.2, "{line}");
+        sides.push(step > 5.0);
+    }
+    assert!(sides.contains(&true) && sides.contains(&false));
 }
 
 #[test]
