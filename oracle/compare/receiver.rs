@@ -5,6 +5,7 @@ use crate::ask::{Compared, Difference};
 use crate::tally::Tally;
 use oracle::answers::Answer;
 use oracle::calls::call;
+use oracle::figures::RUN;
 use oracle::header;
 use oracle::lent::Bits;
 use oracle::noes;
@@ -28,7 +29,7 @@ pub struct Receiver {
 }
 
 /// The run's figures in their order, as the program names them.
-const NAMES: [&str; 28] = [
+const NAMES: [&str; RUN] = [
     "samples",
     "window",
     "key_downs",

@@ -75,7 +75,7 @@ macro_rules! called {
 }
 
 macro_rules! calls {
-    ($($name:literal $answer:ident($($slot:ident)*) $figures:literal;)*) => {
+    ($($name:literal $answer:ident($($slot:ident)*) $figures:ident;)*) => {
         $(
             #[cfg(has = $name)]
             const fn $answer() -> Option<Ask> {

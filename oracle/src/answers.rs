@@ -5,7 +5,7 @@ use crate::by_stand_ins::{self as rust, Hypothesis, ResidualCheck, SecondCarrier
 use crate::by_stand_ins::{MAX_CARRIER_STEP_HZ, MIN_ELEMENTS};
 use crate::records::{self, Estimate};
 use crate::scene::Scene;
-use crate::{keydowns, run as runs};
+use crate::{figures, keydowns, run as runs};
 
 /// What an accepted call leaves behind. Lists hold the records up to the count.
 #[derive(Debug, Clone, Default)]
@@ -127,7 +127,7 @@ pub fn residual_check(s: &Scene) -> Answer {
     }
 }
 
-fn residual_figures(r: &ResidualCheck) -> [f64; 5] {
+fn residual_figures(r: &ResidualCheck) -> [f64; figures::RESIDUAL] {
     let [edge, interior, gap] = [r.edge_blocks, r.interior_blocks, r.gap_blocks].map(|n| n as f64);
     [r.edge_over_neighbour_db, r.interior_over_neighbour_db, edge, interior, gap]
 }
@@ -150,7 +150,7 @@ fn window(fs: f64) -> f64 {
     rust::way_in::edge_window(fs).0 as f64
 }
 
-fn evidence_figures(e: &SecondCarrierEvidence) -> [f64; 5] {
+fn evidence_figures(e: &SecondCarrierEvidence) -> [f64; figures::EVIDENCE] {
     let present = e.offset_hz.is_some() as u8 as f64;
     [e.gap_blocks as f64, e.hot_fraction, present, e.offset_hz.unwrap_or(0.0), e.coherence]
 }
@@ -187,7 +187,7 @@ pub fn clean(s: &Scene) -> Answer {
     }
 }
 
-fn hypothesis_figures(h: &Hypothesis) -> [f64; 2] {
+fn hypothesis_figures(h: &Hypothesis) -> [f64; figures::CLASSIFY] {
     match h {
         Hypothesis::OneSignal => [0.0, 0.0],
         Hypothesis::TwoSignalCw { offset_hz } => [1.0, *offset_hz],

@@ -2,27 +2,28 @@
 //! lists.
 
 use crate::answers::{self, Answer};
+use crate::figures;
 use crate::questions::{self as ask, first_no, Question};
 use crate::records::{ELEMENT, FIT};
 use crate::scene::Scene;
 
-/// Every call that is handed slices, evidence or a check: its name, the oracle's answer to it, what it is handed in the order of
-/// its C parameters (`Slot` says what each is), and how many figures it answers.
+/// Every call that is handed slices, evidence or a check: its name, the oracle's answer to it, what it is handed in the
+/// order of its C parameters (`Slot` says what each is), and how many figures it answers, by the name in src/figures.rs.
 #[macro_export]
 macro_rules! each_call {
     ($then:ident) => {
         $then! {
-            "cancel_find_elements" find_elements(iq fs hint elements work figures) 4;
-            "cancel_fit_elements" fit_elements(iq fs hint given places work figures) 1;
-            "cancel_estimate_strong" estimate_strong(iq fs hint elements fits work figures) 7;
-            "cancel_residual_check" residual_check(iq fs estimate work figures) 5;
-            "cancel_second_carrier_evidence" second_carrier_evidence(iq fs estimate work figures) 5;
-            "cancel_classify" classify(evidence figures) 2;
-            "cancel_subtract" subtract(buf fs estimate) 0;
-            "cancel_run" run(buf fs hint elements fits work figures) 28;
-            "cancel_amplitude_row" amplitude_row(iq fs hint row work figures) 3;
-            "cancel_block_classes" block_classes(iq_len fs estimate classes figures) 5;
-            "cancel_clean" clean(check figures) 1;
+            "cancel_find_elements" find_elements(iq fs hint elements work figures) FIND;
+            "cancel_fit_elements" fit_elements(iq fs hint given places work figures) FIT;
+            "cancel_estimate_strong" estimate_strong(iq fs hint elements fits work figures) ESTIMATE;
+            "cancel_residual_check" residual_check(iq fs estimate work figures) RESIDUAL;
+            "cancel_second_carrier_evidence" second_carrier_evidence(iq fs estimate work figures) EVIDENCE;
+            "cancel_classify" classify(evidence figures) CLASSIFY;
+            "cancel_subtract" subtract(buf fs estimate) NONE;
+            "cancel_run" run(buf fs hint elements fits work figures) RUN;
+            "cancel_amplitude_row" amplitude_row(iq fs hint row work figures) ROW;
+            "cancel_block_classes" block_classes(iq_len fs estimate classes figures) CLASSES;
+            "cancel_clean" clean(check figures) CLEAN;
         }
     };
 }
@@ -90,9 +91,9 @@ pub struct Call {
 }
 
 macro_rules! calls {
-    ($($name:literal $answer:ident($($slot:ident)*) $figures:literal;)*) => {
+    ($($name:literal $answer:ident($($slot:ident)*) $figures:ident;)*) => {
         pub const CALLS: &[Call] = &[
-            $(Call { name: $name, slots: &[$(Slot::$slot),*], figures: $figures, answer: answers::$answer }),*
+            $(Call { name: $name, slots: &[$(Slot::$slot),*], figures: figures::$figures, answer: answers::$answer }),*
         ];
     };
 }

@@ -5,6 +5,7 @@ pub mod answers;
 pub mod calls;
 pub mod cases;
 pub mod crowded;
+pub mod figures;
 pub mod given;
 pub mod handed;
 pub mod header;

@@ -8,6 +8,7 @@ use crate::by_stand_ins::{
     CLEAN_EDGE_OVER_NEIGHBOUR_DB, CLEAN_INTERIOR_OVER_NEIGHBOUR_DB, MAX_CARRIER_STEP_HZ, MIN_ELEMENTS,
 };
 use crate::calls::call;
+use crate::figures::CHECK;
 use crate::questions::MOST_FLOATS;
 use crate::random::Random;
 use crate::recordings::{change_of_step, on_off, sent, Aim};
@@ -319,7 +320,7 @@ pub fn checks<E>(times: usize, r: &mut Random, ask: Ask<E>) -> Result<(), E> {
                 _ => r.about(limits[ratio]),
             };
         }
-        for count in 2..5 {
+        for count in 2..CHECK {
             scene.check[count] = r.pick(&[0.0, 1.0, 131_072.0, 0.5, -3.0, f64::NAN, f64::INFINITY]);
         }
         scene.recording.what = format!("check {:?}", scene.check);

@@ -1,5 +1,6 @@
 //! A scene: a recording with all that the calls are handed beside it.
 
+use crate::figures::CHECK;
 use crate::questions::steps;
 use crate::random::Random;
 use crate::records::{self, ELEMENT, FIT};
@@ -72,7 +73,7 @@ pub struct Scene {
     pub given: Given,
     pub evidence: Evidence,
     /// The figures of a residual check, to be handed in.
-    pub check: [f64; 5],
+    pub check: [f64; CHECK],
     /// Lengths of the lists to be filled, of the list with a place for each given element, and of the work slice.
     pub elements_len: usize,
     pub fits_len: usize,

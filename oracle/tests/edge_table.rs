@@ -4,6 +4,7 @@ use oracle::answers::Answer;
 use oracle::by_stand_ins::way_in::{classes, edge_window, fit_span, percentile};
 use oracle::by_stand_ins::{residual_check, ResidualCheck, SLOPE_BLOCK_S};
 use oracle::calls::call;
+use oracle::figures::{RUN_CARRIER, RUN_HYPOTHESIS};
 use oracle::records::{fits, samples};
 use oracle::scene::{Evidence, Given, Recording, Scene};
 use oracle::signals::real;
@@ -55,8 +56,8 @@ fn hundred_ones() {
 #[test]
 fn report_example() {
     let answer = answer("cancel_run", &ones(300, 100, 200));
-    assert_eq!(answer.figures[..13], [300.0, 8.0, 1.0, 1.0, 0.0, 1.0, 0.0, 101.0, 37.0, 0.0, 0.0, 0.0, 37.0]);
-    assert_eq!(answer.figures[25..], [0.0, 0.0, 0.0]);
+    assert_eq!(answer.figures[..RUN_CARRIER], [300.0, 8.0, 1.0, 1.0, 0.0, 1.0, 0.0, 101.0, 37.0, 0.0, 0.0, 0.0, 37.0]);
+    assert_eq!(answer.figures[RUN_HYPOTHESIS..], [0.0, 0.0, 0.0]);
     assert_eq!(answer.elements[2..], [96.0, 197.0]);
     assert_eq!(answer.kinds, ["one", "kept"]);
 }

@@ -2,6 +2,7 @@
 //! one number is turned, at a time, and just what document 01 leaves free may differ.
 
 use oracle::calls::{Call, Outcome, Slot, CALLS};
+use oracle::figures::RUN_TAKEN;
 use oracle::handed::Handed;
 use oracle::lent::{Bits, Lent};
 use oracle::noes;
@@ -18,7 +19,7 @@ fn scene() -> Scene {
         let mut scene = Scene::own(sent(Aim::Neighbour, &mut r), &mut r);
         scene.evidence = evidence;
         let run = oracle::calls::call("cancel_run").outcome(&scene).expect("an accepted run");
-        if run.figures[27] == 1.0 && run.figures.iter().all(|x| x.is_finite()) && scene.recording.iq.len() < 30_000 {
+        if run.figures[RUN_TAKEN] == 1.0 && run.figures.iter().all(|x| x.is_finite()) && scene.recording.iq.len() < 30_000 {
             for len in [&mut scene.elements_len, &mut scene.fits_len, &mut scene.places_len, &mut scene.work_len] {
                 *len += 3;
             }
