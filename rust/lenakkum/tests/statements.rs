@@ -102,17 +102,23 @@ fn opened(folder: &Path, page: &str) -> (String, Vec<String>) {
     chromium.arg(format!("file://{}", folder.join(page).display()));
     let said = chromium.output().expect("chromium was not found (Debian: apt-get install -y chromium)");
     assert!(said.status.success(), "{}", text(&said.stderr));
+    // The browser asks for things of its own too, of hosts that the page does not name.
+    let written = fs::read_to_string(folder.join(page)).unwrap();
     let mut lines = Vec::new();
     while let Ok(line) = asked.recv_timeout(Duration::from_millis(300)) {
-        if !ITS_OWN.iter().any(|host| line.contains(host)) {
+        if host(&line).map_or(false, |host| written.contains(host)) {
             lines.push(line);
         }
     }
     (text(&said.stdout), lines)
 }
 
-/// Whom the browser asks for itself, whatever the page.
-const ITS_OWN: [&str; 3] = ["//clients2.google.com/", " accounts.google.com:443", "update.googleapis.com"];
+/// The host that a request asks of: `GET http://HOST/..` or `CONNECT HOST:443 ..`.
+fn host(line: &str) -> Option<&str> {
+    let address = line.split(' ').nth(1)?;
+    let address = address.strip_prefix("http://").unwrap_or(address);
+    address.split(&['/', ':']).next().filter(|host| !host.is_empty())
+}
 
 #[test]
 fn a_page_says_all_of_it_and_fetches_nothing() {

@@ -49,7 +49,7 @@ struct Place {
 
 impl Place {
     fn of(subject: &Subject, run: Option<u64>) -> Place {
-        let finite = |seconds: f64| seconds.is_finite().then(|| seconds);
+        let finite = |seconds: f64| seconds.is_finite().then_some(seconds);
         Place {
             rate_hz: subject.rate,
             hint_hz: subject.hint,
