@@ -50,6 +50,14 @@ impl Datatype {
         ALL.into_iter().find(|kind| kind.name == name)
     }
 
+    /// The type that the ending of a file's name is used for, with its byte order left open.
+    pub fn of_ending(ending: &str) -> Option<&'static str> {
+        const ENDINGS: [&str; 8] = ["cf32", "cf64", "ci8", "cu8", "ci16", "cu16", "ci32", "cu32"];
+        // Some write signed numbers so.
+        let ending = ending.to_ascii_lowercase().replace("cs", "ci");
+        ENDINGS.into_iter().find(|known| *known == ending)
+    }
+
     pub fn name(self) -> &'static str {
         self.name
     }

@@ -116,7 +116,7 @@ impl Source {
             let regular = file.metadata().map_err(wrong)?.is_file();
             if regular { Bytes::of_file(file) } else { Ok(Bytes::Stream(Box::new(file))) }.map_err(wrong)?
         };
-        let datatype = how.datatype.unwrap_or(Datatype::CF32_LE);
+        let datatype = how.datatype.map_or_else(|| unnamed(path), Ok)?;
         content::checked(&name, &bytes.first(content::LOOKED_AT).map_err(wrong)?, datatype)?;
         let rate = how.rate;
         let rate = rate.ok_or_else(|| Problem::with(&name, "--rate HZ is needed: the file does not say its rate"))?;
@@ -155,6 +155,14 @@ impl Source {
             return Err(Problem::with(&self.name, why));
         }
         Ok(self.datatype.samples(&bytes))
+    }
+}
+
+/// The type of bare samples where the command line names none: f32 pairs, unless the file's ending speaks of others.
+fn unnamed(path: &Path) -> Result<Datatype, Problem> {
+    match path.extension().and_then(|e| Datatype::of_ending(e.to_str()?)) {
+        None | Some("cf32") => Ok(Datatype::CF32_LE),
+        Some(kind) => Err(Problem::with(path.display(), format!("by its name it is of another type: --format {kind}"))),
     }
 }
 

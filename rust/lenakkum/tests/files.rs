@@ -65,6 +65,21 @@ fn every_complex_type_is_read_to_full_scale_1() {
     }
 }
 
+/// Samples are not taken for f32 where the file's name speaks of others.
+#[test]
+fn endings_that_name_a_type() {
+    let folder = folder("endings");
+    for (ending, kind) in [("cu8", "cu8"), ("cs16", "ci16"), ("ci16", "ci16"), ("CF64", "cf64")] {
+        fs::write(folder.join(format!("tank.{ending}")), PARTS.map(|x| encoded(kind, x)).concat()).unwrap();
+        let said = lenakkum(&folder, &format!("run tank.{ending} --rate 3000"));
+        assert_wrong(&said, &format!("by its name it is of another type: --format {kind}"), ending);
+        let expected = bytes([(PARTS[0], PARTS[1]), (PARTS[2], PARTS[3])]);
+        assert_eq!(as_read(&folder, &format!("tank.{ending} --rate 3000 --format {kind}")), expected);
+    }
+    fs::write(folder.join("tank.iq"), one()).unwrap();
+    assert_eq!(text(&lenakkum(&folder, "run tank.iq --rate 3000").stdout), ONE);
+}
+
 /// A sender is found alike in every type, as fine as the type is.
 #[test]
 fn the_sender_is_taken_off_in_every_type() {
