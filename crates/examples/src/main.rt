@@ -71,7 +71,7 @@ fn compare_pieces(k: usize)
     compare(k, 1000, b", by 1,000 bytes", &stored[..m]);
 }
 
-// The program's own name comes before the arguments. A last one that has no report is held to none, and missed.
+// The program's own name comes first. Where the last recording has no report with it, that report is missing.
 fn main() {
     let pairs = os::arg_count() / 2;
     for i in 0..pairs {
