@@ -1,12 +1,11 @@
 -- The ways out of `find_elements`. Assumes nothing.
 use Prim.Native.Nat.{ℕ, _-_, _*_, _/_, _≤_}
 use native.Mathlib.Omega.{arith}
-use mathlib.Core.Path.{_≡_, ap, _∙_}
-use mathlib.Core.Bool.{true, false}
+use mathlib.Core.Path.{_≡_, sym, ap, _∙_}
 use mathlib.Core.List.{List}
 use lib.ListN.{length, getD}
-use lib.Ieee.{Float, nan, lt}
-use Rattle.float.specs.Ops.{_⊗_, bits, half, plus-zero}
+use lib.Ieee.{Float, nan}
+use Rattle.float.specs.Ops.{bits}
 use Rattle.row.specs.Window.{stepOf, stepBlocks}
 use Rattle.row.specs.Envelope.{rowOf, rowLength}
 use Rattle.lists.specs.Firsts.{firsts}
@@ -19,7 +18,7 @@ use Rattle.elements.specs.Keying.{noKeyDowns, foundTo, elementsTo}
 use Rattle.lists.specs.Records.{handed}
 use Rattle.elements.specs.Element.{ELEMENT, elementsIn, handedElements}
 use Rattle.elements.specs.Inner.{stored}
-use Rattle.elements.specs.declared.threshold.Threshold.the-variants.{Absent}
+use Rattle.elements.specs.declared.threshold.Threshold.the-variants.{At, Absent}
 use Rattle.elements.specs.Find.{halfOf, thresholdOf, foundOf, elementsFound}
 use Rattle.elements.proofs.Same.{found-same, elements-same}
 use Rattle.elements.proofs.Records.{elements-handed}
@@ -53,20 +52,20 @@ module _ (iq : List Float) (fs carrier : Float) where
     pub way-none : (l : List Float) → p ≡ Nothing → answered noKeyDowns l l
     way-none l e = without l (rw (threshold-is, e))
 
-    pub way-low : (l : List Float) (top : Float) → p ≡ Value top → lt plus-zero (half ⊗ top) ≡ false → answered noKeyDowns l l
-    way-low l top e low = without l (rw (threshold-is, e, low))
+    pub way-low : (l : List Float) (top : Float) → p ≡ Value top → Absent ≡ halfOf (Value top) → answered noKeyDowns l l
+    way-low l top e low = without l (rw (threshold-is, e) (sym low))
 
-    pub way-found : (l out : List Float) (top : Float) (step : ℕ) (r : Found) → ELEMENT * (stepBlocks iq fs / 2) ≤ length l → step ≡ stepOf fs → p ≡ Value top → lt plus-zero (half ⊗ top) ≡ true
-        → (r ≡ foundTo (λ k. getD v k nan) (half ⊗ top) step fs (length v - 1)) × (out ≡ stored l (elementsTo (λ k. getD v k nan) (half ⊗ top) step fs (length v - 1)))
+    pub way-found : (l out : List Float) (top thr : Float) (step : ℕ) (r : Found) → ELEMENT * (stepBlocks iq fs / 2) ≤ length l → step ≡ stepOf fs → p ≡ Value top → At thr ≡ halfOf (Value top)
+        → (r ≡ foundTo (λ k. getD v k nan) thr step fs (length v - 1)) × (out ≡ stored l (elementsTo (λ k. getD v k nan) thr step fs (length v - 1)))
         → answered r l out
     unfolding foundOf elementsFound
-    way-found l out top step r room s e high h =
-        let some = some-row iq fs carrier (half ⊗ top) (rw (threshold-is, e, high)) in
+    way-found l out top thr step r room s e high h =
+        let at : thresholdOf iq fs carrier ≡ At thr = rw (threshold-is, e) (sym high) in
+        let some = some-row iq fs carrier thr at in
         let size = row-size iq fs carrier v is in
         let last : length v - 1 ≡ rowLength iq fs - 1 = omega arith in
         let same : (i : ℕ) → i ≤ length v - 1 → getD v i nan ≡ rowOf iq fs carrier i =
         λ i b. ap (λ (m : List Float). getD m i nan) is ∙ getD-firsts (rowOf iq fs carrier) (rowLength iq fs) i nan (omega arith) in
         found-handed r l out room
-        (rw (threshold-is, e, high, ← last, ← s) (h .0 ∙ found-same (λ k. getD v k nan) (rowOf iq fs carrier) (half ⊗ top) (length v - 1) same step fs))
-        (rw (threshold-is, e, high, ← last, ← s)
-        (h .1 ∙ ap (stored l) (elements-same (λ k. getD v k nan) (rowOf iq fs carrier) (half ⊗ top) (length v - 1) same step fs)))
+        (rw (at, ← last, ← s) (h .0 ∙ found-same (λ k. getD v k nan) (rowOf iq fs carrier) thr (length v - 1) same step fs))
+        (rw (at, ← last, ← s) (h .1 ∙ ap (stored l) (elements-same (λ k. getD v k nan) (rowOf iq fs carrier) thr (length v - 1) same step fs)))

@@ -2,6 +2,8 @@
 use crate::amplitude::make_row;
 use crate::keying::Found;
 use crate::keying::scan;
+use crate::threshold::Threshold;
+use crate::threshold::half_of;
 use constants::EDGE_PERCENTILE;
 use rank::Percentile;
 use rank::select::percentile;
@@ -39,10 +41,8 @@ pub fn find_elements(
     let Percentile::Value(top) = percentile(row, EDGE_PERCENTILE) else {
         return Found::NO_KEY_DOWNS;
     };
-    let thr = 0.5 * top;
-    if thr > 0.0 {
-        scan(row, thr, edge_step(fs), fs, elements)
-    } else {
-        Found::NO_KEY_DOWNS
-    }
+    let Threshold::At(thr) = half_of(top) else {
+        return Found::NO_KEY_DOWNS;
+    };
+    scan(row, thr, edge_step(fs), fs, elements)
 }
