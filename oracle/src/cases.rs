@@ -6,7 +6,7 @@ use crate::random::Random;
 use crate::recordings::Aim;
 use crate::scene::{Given, Recording, Scene};
 use crate::signals::{real, senders, Sender};
-use crate::stored::{has_room, is_stored, whole, Stored};
+use crate::stored::{has_room, is_stored, whole, Stored, Wrong};
 use crate::{crowded, given, limits, noes};
 use std::collections::BTreeSet;
 
@@ -30,6 +30,7 @@ pub fn bytes() -> Vec<u8> {
     small_ones(&mut stored);
     refusals(&mut stored);
     hypotheses(&mut stored);
+    meant_to_differ(&mut stored);
     stored.bytes()
 }
 
@@ -37,7 +38,7 @@ pub fn bytes() -> Vec<u8> {
 fn ask(stored: &mut Stored, s: &Scene, calls: &[&str]) {
     assert!(has_room(s), "{}: more than the program has room for", s.recording.described());
     for (number, call) in CALLS.iter().enumerate().filter(|(_, c)| calls.contains(&c.name)) {
-        stored.ask(call, number, s);
+        stored.ask(call, number, s, None);
     }
 }
 
@@ -50,31 +51,31 @@ const MEASURES: [&str; 2] = ["cancel_residual_check", "cancel_second_carrier_evi
 /// Those that fit given elements or take given fits off.
 const GIVEN: [&str; 2] = ["cancel_fit_elements", "cancel_subtract"];
 
-/// The first recordings by seed whose run is of this kind, each with its own estimate. Of those that are kept nothing
-/// is subtracted, since what is left takes as much room as the recording.
-fn crowded_runs(stored: &mut Stored, kind: &str, aim: Aim, times: usize) {
+/// The first recordings by seed whose run is of this kind, each with its own estimate.
+fn crowded_scenes(kind: &str, aim: Aim, times: usize) -> Vec<Scene> {
     let of_kind = |scene: &Scene| call("cancel_run").outcome(scene).is_ok_and(|a| a.kinds.contains(&kind));
-    let mut found = 0;
-    for seed in 1..20_000 {
+    let by_seed = |seed| {
         let mut r = Random::new(seed);
-        let mut scene = Scene::own(crowded::recording(aim, &mut r), &mut r);
-        if of_kind(&scene) {
-            stored.recording(&scene.recording.iq, crowded::SCALE);
-            ask(stored, &scene, &ALONE);
-            ask(stored, &scene, &MEASURES);
-            if kind == "taken" {
-                ask(stored, &scene, &["cancel_subtract"]);
-            }
-            // The fits at the refined carrier are those of the estimate, which are stored already.
-            scene.recording.hint_hz = scene.given.carrier_hz;
-            ask(stored, &scene, &["cancel_fit_elements"]);
-            found += 1;
-            if found == times {
-                return;
-            }
+        Scene::own(crowded::recording(aim, &mut r), &mut r)
+    };
+    let scenes: Vec<Scene> = (1..20_000).map(by_seed).filter(of_kind).take(times).collect();
+    assert_eq!(scenes.len(), times, "{kind}: too few recordings by seed");
+    scenes
+}
+
+/// Of those that are kept nothing is subtracted, since what is left takes as much room as the recording.
+fn crowded_runs(stored: &mut Stored, kind: &str, aim: Aim, times: usize) {
+    for mut scene in crowded_scenes(kind, aim, times) {
+        stored.recording(&scene.recording.iq, crowded::SCALE);
+        ask(stored, &scene, &ALONE);
+        ask(stored, &scene, &MEASURES);
+        if kind == "taken" {
+            ask(stored, &scene, &["cancel_subtract"]);
         }
+        // The fits at the refined carrier are those of the estimate, which are stored already.
+        scene.recording.hint_hz = scene.given.carrier_hz;
+        ask(stored, &scene, &["cancel_fit_elements"]);
     }
-    panic!("{kind}: too few recordings by seed");
 }
 
 /// A recording with its own estimate, and with others that are made from it.
@@ -171,4 +172,44 @@ fn hypotheses(stored: &mut Stored) {
         Ok(())
     });
     asked.expect("no call fails");
+}
+
+/// What of each call's answer is wrong by one bit, once.
+const WRONG: [(&str, &[Wrong]); 8] = [
+    ("cancel_find_elements", &[Wrong::Figure, Wrong::Element, Wrong::Number]),
+    ("cancel_fit_elements", &[Wrong::Figure, Wrong::Fit, Wrong::Number]),
+    ("cancel_estimate_strong", &[Wrong::Figure, Wrong::Element, Wrong::Fit, Wrong::Number]),
+    ("cancel_residual_check", &[Wrong::Figure, Wrong::Number]),
+    ("cancel_second_carrier_evidence", &[Wrong::Figure, Wrong::Number]),
+    ("cancel_classify", &[Wrong::Figure]),
+    ("cancel_subtract", &[Wrong::Sample, Wrong::Number]),
+    ("cancel_run", &[Wrong::Figure, Wrong::Element, Wrong::Fit, Wrong::Sample, Wrong::Number]),
+];
+
+fn ask_wrongly(stored: &mut Stored, s: &Scene, name: &str, wrong: Wrong) {
+    assert!(has_room(s), "{}: more than the program has room for", s.recording.described());
+    let number = CALLS.iter().position(|c| c.name == name).expect("a call of this name");
+    stored.ask(&CALLS[number], number, s, Some(wrong));
+}
+
+/// Answers that are wrong by one bit, which the program has to find unequal: about a short recording whose run is kept;
+/// the number of a refusal; the buffer of a run that is taken.
+fn meant_to_differ(stored: &mut Stored) {
+    let mut r = Random::new(11);
+    let iq = real(300, |k| if (100..200).contains(&k) { 1.0 } else { 0.0 });
+    stored.recording(&iq, crowded::SCALE);
+    let mut s = Scene::own(Recording { what: "meant to differ".into(), fs: 3_000.0, iq, hint_hz: 0.0 }, &mut r);
+    for (name, all) in WRONG {
+        for wrong in all {
+            ask_wrongly(stored, &s, name, *wrong);
+        }
+    }
+    noes::answer_no(&mut s, 2, &mut r);
+    for (name, _) in WRONG.iter().filter(|(_, all)| all.contains(&Wrong::Number)) {
+        ask_wrongly(stored, &s, name, Wrong::Number);
+    }
+    for s in crowded_scenes("taken", Aim::Neighbour, 1) {
+        stored.recording(&s.recording.iq, crowded::SCALE);
+        ask_wrongly(stored, &s, "cancel_run", Wrong::Sample);
+    }
 }

@@ -1,10 +1,11 @@
-//! Records with what document 01 adds to the Rust's (up, down), and as flat numbers: four an element, eight a fit.
+//! Records with what document 01 adds to the Rust's (up, down), and as flat numbers: a fit's are those of its element and
+//! four more.
 
 use crate::by_stand_ins::{ElementFit, KeyedElement, StrongEstimate};
 use num_complex::{Complex32, Complex64};
 
 pub const ELEMENT: usize = 4;
-pub const FIT: usize = 8;
+pub const FIT: usize = ELEMENT + 4;
 
 #[derive(Debug, Clone, Copy)]
 pub struct Element {
@@ -39,12 +40,16 @@ pub struct Fit {
 
 impl Fit {
     pub fn read(flat: &[f64]) -> Fit {
-        Fit { element: Element::read(flat), gain: Complex64::new(flat[4], flat[5]), slope: flat[6], reference: flat[7] }
+        let [re, im, slope, reference] = std::array::from_fn(|i| flat[ELEMENT + i]);
+        Fit { element: Element::read(flat), gain: Complex64::new(re, im), slope, reference }
     }
 
     pub fn flat(&self) -> [f64; FIT] {
-        let e = self.element;
-        [e.start, e.end, e.up, e.down, self.gain.re, self.gain.im, self.slope, self.reference]
+        let mut flat = [0.0; FIT];
+        let (element, own) = flat.split_at_mut(ELEMENT);
+        element.copy_from_slice(&self.element.flat());
+        own.copy_from_slice(&[self.gain.re, self.gain.im, self.slope, self.reference]);
+        flat
     }
 
     pub fn fitted(&self) -> ElementFit {

@@ -8,12 +8,13 @@
 use crate::answers::Answer;
 use crate::calls::{Call, Slot};
 use crate::lent::Bits;
+use crate::records::{ELEMENT, FIT};
 use crate::scene::{Evidence, Scene};
 
 /// The most numbers that the program keeps or lends of each kind.
 pub const FLOATS: usize = 4_096;
-pub const ELEMENTS: usize = 4 * 1_024 + 16;
-pub const FITS: usize = 8 * 1_024 + 16;
+pub const ELEMENTS: usize = ELEMENT * 1_024 + 16;
+pub const FITS: usize = FIT * 1_024 + 16;
 pub const WORK: usize = 4 * 2_048 + 16;
 
 /// The kinds of record. The calls follow from CALL on, in the order of calls.rs.
@@ -25,6 +26,9 @@ const ELEMENT_LIST: u32 = 5;
 const FIT_LIST: u32 = 6;
 const END: u32 = 7;
 const CALL: u32 = 16;
+
+/// What the kind of a call is raised by whose stored answer is meant to differ.
+const MEANT: u32 = 64;
 
 /// Half the range of a sample's part, so that the stored number is not negative.
 const MIDDLE: f32 = 32_768.0;
@@ -70,6 +74,25 @@ fn stretches(a: &[f32], b: &[f32]) -> Vec<(usize, usize)> {
         }
     }
     all
+}
+
+/// What is wrong in an answer that is meant to differ: one bit of the last figure, of the last number of the last element
+/// or fit, of the last float of the buffer, or of the refusal's number, which is 0 where the call is accepted.
+#[derive(Debug, Clone, Copy, PartialEq)]
+pub enum Wrong {
+    Figure,
+    Element,
+    Fit,
+    Sample,
+    Number,
+}
+
+/// Changes a number by one bit, to another one.
+fn one_bit<T: Bits>(x: Option<&mut T>) {
+    let x = x.expect("the answer has such a number");
+    let was = *x;
+    *x = T::of(was.bits() ^ 1);
+    assert!(!x.same(was), "one bit makes another number of it");
 }
 
 fn halves(x: u64) -> [u32; 2] {
@@ -139,13 +162,20 @@ impl Stored {
         }
     }
 
-    /// A call on a scene, and what the Rust answers.
-    pub fn ask(&mut self, call: &Call, number: usize, s: &Scene) {
-        let outcome = call.outcome(s);
-        let (status, answer) = match outcome {
+    /// A call on a scene, and what the Rust answers, or one bit else.
+    pub fn ask(&mut self, call: &Call, number: usize, s: &Scene, wrong: Option<Wrong>) {
+        let (mut status, mut answer) = match call.outcome(s) {
             Ok(answer) => (0, answer),
             Err(no) => (no, Answer::default()),
         };
+        match wrong {
+            Some(Wrong::Figure) => one_bit(answer.figures.last_mut()),
+            Some(Wrong::Element) => one_bit(answer.elements.last_mut()),
+            Some(Wrong::Fit) => one_bit(answer.fits.last_mut()),
+            Some(Wrong::Sample) => one_bit(answer.buffer.as_mut().and_then(|b| b.last_mut())),
+            Some(Wrong::Number) => status ^= 1,
+            None => {}
+        }
         let mut body = Vec::new();
         if call.is_handed(Slot::evidence) {
             body.extend(evidence(&s.evidence));
@@ -177,7 +207,7 @@ impl Stored {
             body.extend([status as u32, changed, answer.elements.len() as u32, answer.fits.len() as u32]);
         }
         body.extend(answer.figures.iter().flat_map(|x| halves(x.to_bits())));
-        self.record(CALL + number as u32, &body);
+        self.record(CALL + number as u32 + if wrong.is_some() { MEANT } else { 0 }, &body);
     }
 
     /// The file, with its last record.

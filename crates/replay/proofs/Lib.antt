@@ -1,4 +1,5 @@
 -- Laws behind the proofs of `replay`.
 
--- Prefix      the first part of a row is as long as it was asked to be: `prefix-length`
+-- Prefix      the first part of a row is as long as it was asked to be: `prefix-length`; one number again and again is
+--             as long as that: `repeated`
 pub mod Prefix

@@ -1,10 +1,14 @@
--- The first part of a row, lent to a call.
+-- The lengths of rows: the first part of one, and one number again and again.
 use Prim.Native.Nat.{ℕ, _≤_}
 use mathlib.Core.Path.{_≡_, sym, _∙_}
 use mathlib.Core.List.{List}
 use native.Mathlib.Nat.{min-eq-left}
-use lib.ListN.{length, take, length-take}
+use lib.ListN.{length, take, length-take, replicate, length-replicate}
 
--- is as long as it was asked to be
+-- The first part of a row is as long as it was asked to be.
 pub prefix-length : {A : Type 0} (n : ℕ) (l : List A) → n ≤ length l → n ≡ length (take n l)
 prefix-length n l h = sym (length-take n l ∙ min-eq-left h)
+
+-- A law, since the array that is read into is too long to be counted.
+pub repeated : (n : ℕ) → n ≡ length {A = ℕ} (replicate n 0)
+repeated n = sym (length-replicate n 0)

@@ -7,12 +7,13 @@ use cancel::Figures;
 use cancel::FindAnswer;
 use cancel::FitAnswer;
 use cancel::Found;
-use cancel::Offset;
 use cancel::ResidualAnswer;
 use cancel::RunAnswer;
 use cancel::SecondCarrierEvidence;
 use cancel::SubtractAnswer;
+use elements::ELEMENT;
 use figures::case_of;
+use figures::given_offset;
 use figures::of_estimate;
 use figures::of_evidence;
 use figures::of_find;
@@ -20,30 +21,20 @@ use figures::of_fit;
 use figures::of_hypothesis;
 use figures::of_residual;
 use figures::of_run;
+use fits::FIT;
+use stored::answer::Answered;
+use stored::answer::Ran;
+use stored::answer::figured_same;
+use stored::answer::filled_same;
+use stored::answer::kept_same;
+use stored::answer::left_same;
+use stored::answer::refused_same;
 use stored::asked::Asked;
 use stored::asked::figures;
-use stored::equal::as_lent;
 use stored::equal::changed;
 use stored::equal::same_figures;
-use stored::equal::same_floats;
-use stored::equal::same_list;
 use stored::units::double;
 use stored::units::long;
-
-// What came of a case: whether it is equal, and 0 or the refusal's number.
-pub struct Answered {
-    pub equal: bool,
-    pub no: u64,
-}
-
-// The same of a run: its hypothesis and whether it said taken, where it is accepted; the samples that it changed.
-pub struct Ran {
-    pub equal: bool,
-    pub no: u64,
-    pub hypothesis: usize,
-    pub taken: bool,
-    pub changed: u64,
-}
 
 // Where a case's figures begin, in bytes.
 const FIGURES: usize = 88;
@@ -54,45 +45,15 @@ fn done(equal: bool) -> Answered {
     Answered { equal, no: 0 }
 }
 
-// A refusal by the stored number leaves lists and work slice as they were lent.
 fn refused(a: Asked, no: u64, elements: &[f64], fits: &[f64], work: &[f64]) -> Answered {
-    if no != a.no {
-        return Answered { equal: false, no };
+    Answered {
+        equal: refused_same(a.no, no, elements, fits, work),
+        no,
     }
-    if !as_lent(elements, 0) {
-        return Answered { equal: false, no };
-    }
-    if !as_lent(fits, 0) {
-        return Answered { equal: false, no };
-    }
-    let equal = as_lent(work, 0);
-    Answered { equal, no }
 }
 
-// The list holds the stored elements, and what follows its last whole place is as it was.
-fn elements_filled(list: &[f64], stored: &[f64], n: usize) -> bool {
-    if !same_list(list, stored, n) {
-        return false;
-    }
-    let rest = list.len() % 4;
-    as_lent(list, list.len() - rest)
-}
-
-// The same of fits.
-fn fits_filled(list: &[f64], stored: &[f64], n: usize) -> bool {
-    if !same_list(list, stored, n) {
-        return false;
-    }
-    let rest = list.len() % 8;
-    as_lent(list, list.len() - rest)
-}
-
-// An accepted call's figures.
 fn figured(a: Asked, answer: &[f64], body: &[u8]) -> bool {
-    if a.no != 0 {
-        return false;
-    }
-    same_figures(answer, figures(body, FIGURES))
+    figured_same(a.no, answer, figures(body, FIGURES))
 }
 
 fn found(a: Asked, f: Found, body: &[u8], elements: &[f64], stored: &[f64]) -> bool {
@@ -100,7 +61,7 @@ fn found(a: Asked, f: Found, body: &[u8], elements: &[f64], stored: &[f64]) -> b
     if !figured(a, &answer, body) {
         return false;
     }
-    elements_filled(elements, stored, a.listed)
+    filled_same(elements, ELEMENT, stored, a.listed)
 }
 
 pub fn find(
@@ -122,7 +83,7 @@ fn fitted(a: Asked, n: usize, body: &[u8], fits: &[f64], stored: &[f64]) -> bool
     if !figured(a, &answer, body) {
         return false;
     }
-    fits_filled(fits, stored, a.fitted)
+    filled_same(fits, FIT, stored, a.fitted)
 }
 
 pub fn fit(
@@ -155,10 +116,10 @@ fn lists_filled(
     fits: &[f64],
     stored_fits: &[f64],
 ) -> bool {
-    if !elements_filled(elements, stored_elements, a.listed) {
+    if !filled_same(elements, ELEMENT, stored_elements, a.listed) {
         return false;
     }
-    fits_filled(fits, stored_fits, a.fitted)
+    filled_same(fits, FIT, stored_fits, a.fitted)
 }
 
 fn estimated(
@@ -255,35 +216,16 @@ pub fn evidence(
     }
 }
 
-fn offset(present: u64, hz: f64) -> Offset {
-    if present == 0 {
-        Offset::Absent
-    } else {
-        Offset::Hz(hz)
-    }
-}
-
 // It refuses nothing.
 pub fn classify(body: &[u8]) -> Answered {
     let e = SecondCarrierEvidence {
         gap_blocks: long(body, 0) as usize,
         hot_fraction: double(body, 2),
-        offset_hz: offset(long(body, 4), double(body, 6)),
+        offset_hz: given_offset(long(body, 4), double(body, 6)),
         coherence: double(body, 8),
     };
     let answer = of_hypothesis(cancel::classify(e));
     done(same_figures(&answer, figures(body, CLASSIFY_FIGURES)))
-}
-
-// The buffer after an accepted call: as it was, or as stored.
-fn left_as_stored(a: Asked, buf: &[f32], iq: &[f32], left: &[f32]) -> bool {
-    if a.no != 0 {
-        return false;
-    }
-    if a.changed {
-        return same_floats(buf, left);
-    }
-    same_floats(buf, iq)
 }
 
 // The buffer holds the recording.
@@ -305,14 +247,11 @@ pub fn subtract(
         given_fits,
         a.fit_count,
     ) {
-        SubtractAnswer::Refused(no) => {
-            let kept = same_floats(buf, iq);
-            Answered {
-                equal: if kept { no == a.no } else { false },
-                no,
-            }
-        }
-        SubtractAnswer::Done => done(left_as_stored(a, buf, iq, left)),
+        SubtractAnswer::Refused(no) => Answered {
+            equal: kept_same(a.no, no, buf, iq),
+            no,
+        },
+        SubtractAnswer::Done => done(left_same(a.no, a.changed, buf, iq, left)),
     }
 }
 
@@ -325,10 +264,10 @@ fn run_refused(
     fits: &[f64],
     work: &[f64],
 ) -> Ran {
-    let lists = refused(a, no, elements, fits, work);
-    let kept = same_floats(buf, iq);
+    let lists = refused_same(a.no, no, elements, fits, work);
+    let kept = kept_same(a.no, no, buf, iq);
     Ran {
-        equal: if kept { lists.equal } else { false },
+        equal: if kept { lists } else { false },
         no,
         hypothesis: 0,
         taken: false,
@@ -367,7 +306,7 @@ fn run_done(
     let hypothesis = f.hypothesis;
     let h = case_of(hypothesis);
     let answers = run_filled(a, f, body, stored_elements, stored_fits, elements, fits);
-    let leaves = left_as_stored(a, buf, iq, left);
+    let leaves = left_same(a.no, a.changed, buf, iq, left);
     Ran {
         equal: if answers { leaves } else { false },
         no: 0,

@@ -2,106 +2,94 @@
 // crates/replay/README.md has the form of the file and how it was made.
 mod calls;
 mod cases;
+mod sizes;
 
-use crate::calls::Answered;
-use crate::calls::Ran;
+use crate::sizes::ELEMENTS;
+use crate::sizes::FITS;
+use crate::sizes::FLOATS;
 use libc::STDIN_FILENO;
-use stored::kept;
-use stored::kept::ELEMENTS;
-use stored::kept::FITS;
-use stored::kept::FLOATS;
+use stored::answer::Answered;
+use stored::answer::Ran;
+use stored::answer::counted;
+use stored::answer::counted_run;
+use stored::kept::put;
 use stored::tally;
+use stored::tally::PLACES;
 use stored::tally::add;
-use stored::tally::only_if;
 use stored::told;
 use stored::units::count;
-ghost use Prim.Native.Nat.{_+_, _/_, _≤_, _<_};
+use stored::units::size_at;
+ghost use Prim.Native.Nat.{_/_, _≤_, _<_};
 ghost use lib.ListN.{length};
 
-fn counted(tally: &mut [u64], call: usize, a: Answered) {
-    add(tally, tally::ASKED, call, 1);
-    add(tally, tally::EQUAL, call, only_if(a.equal, 1));
-    add(tally, tally::REFUSED, a.no as usize, 1);
-}
+// The first record that puts nothing, and what a call's kind is raised by where its stored answer is meant to differ.
+const END: usize = 7;
 
-fn counted_run(tally: &mut [u64], call: usize, r: Ran) {
+const MEANT: usize = 64;
+
+// What a run found is counted too, where it is not meant to differ.
+fn ran(tally: &mut [u64; PLACES], meant: bool, r: Ran) {
     counted(
         tally,
-        call,
+        7,
+        meant,
         Answered {
             equal: r.equal,
             no: r.no,
         },
     );
-    add(
-        tally,
-        tally::HYPOTHESIS,
-        r.hypothesis,
-        only_if(r.no == 0, 1),
-    );
-    add(tally, tally::TAKEN, 0, only_if(r.taken, 1));
-    add(tally, tally::CHANGED, 0, only_if(r.taken, r.changed));
-}
-
-// A record that puts numbers into what is kept; answers whether its kind is known.
-fn put(
-    kind: usize,
-    body: &[u8],
-    iq: &mut [f32],
-    left: &mut [f32],
-    stored_elements: &mut [f64],
-    stored_fits: &mut [f64],
-) -> bool {
-    match kind {
-        1 => kept::recording(body, iq),
-        2 => kept::floats(body, iq),
-        3 => kept::copied(iq, left),
-        4 => kept::floats(body, left),
-        5 => kept::list(body, stored_elements),
-        6 => kept::list(body, stored_fits),
-        _ => return false,
+    if !meant {
+        counted_run(tally, r);
     }
-    true
 }
 
-// The end, or a call, in the order of crates/replay/README.md; answers whether its kind is known.
+// A call, in the order of crates/replay/README.md; answers whether its kind is known.
 fn ask(
     kind: usize,
+    meant: bool,
     body: &[u8],
     iq: &[f32],
     left: &[f32],
     stored_elements: &[f64],
     stored_fits: &[f64],
-    tally: &mut [u64],
+    tally: &mut [u64; PLACES],
 ) -> bool {
     match kind {
-        7 => add(tally, tally::ENDS, 0, 1),
-        16 => counted(tally, 0, cases::find(body, iq, stored_elements)),
-        17 => counted(tally, 1, cases::fit(body, iq, stored_elements, stored_fits)),
+        16 => counted(tally, 0, meant, cases::find(body, iq, stored_elements)),
+        17 => counted(
+            tally,
+            1,
+            meant,
+            cases::fit(body, iq, stored_elements, stored_fits),
+        ),
         18 => counted(
             tally,
             2,
+            meant,
             cases::estimate(body, iq, stored_elements, stored_fits),
         ),
         19 => counted(
             tally,
             3,
+            meant,
             cases::residual(body, iq, stored_elements, stored_fits),
         ),
         20 => counted(
             tally,
             4,
+            meant,
             cases::evidence(body, iq, stored_elements, stored_fits),
         ),
-        21 => counted(tally, 5, calls::classify(body)),
+        21 => counted(tally, 5, meant, calls::classify(body)),
         22 => counted(
             tally,
             6,
+            meant,
             cases::subtract(body, iq, left, stored_elements, stored_fits),
         ),
-        23 => counted_run(
+        23 => ran(
             tally,
-            7,
+            meant,
             cases::run(body, iq, left, stored_elements, stored_fits),
         ),
         _ => return false,
@@ -116,27 +104,27 @@ fn record(
     left: &mut [f32],
     stored_elements: &mut [f64],
     stored_fits: &mut [f64],
-    tally: &mut [u64],
+    tally: &mut [u64; PLACES],
 ) -> bool {
-    if kind < 7 {
+    if kind < END {
         return put(kind, body, iq, left, stored_elements, stored_fits);
     }
-    ask(kind, body, iq, left, stored_elements, stored_fits, tally)
-}
-
-// The size of the record at a unit, 0 where it is not whole.
-fn size_at(bytes: &[u8], at: usize) -> usize
-    requires { ⌜ at < length (now bytes) / 4 ⌝ }
-    ensures { λ r. ⌜ at + r ≤ length (now (bytes .entry)) / 4 ⌝ }
-{
-    let size = count(bytes, at + 1);
-    if size < 2 {
-        return 0;
+    if kind == END {
+        add(tally, tally::ENDS, 1, 0, 1);
+        return true;
     }
-    if bytes.len() / 4 - at < size {
-        return 0;
-    }
-    size
+    let meant = kind >= MEANT;
+    let call = if meant { kind - MEANT } else { kind };
+    ask(
+        call,
+        meant,
+        body,
+        iq,
+        left,
+        stored_elements,
+        stored_fits,
+        tally,
+    )
 }
 
 // Replays the record at a unit; answers where the next one is. One that is not whole or not known is the last.
@@ -147,14 +135,14 @@ fn next(
     left: &mut [f32],
     stored_elements: &mut [f64],
     stored_fits: &mut [f64],
-    tally: &mut [u64],
+    tally: &mut [u64; PLACES],
 ) -> usize
     requires { ⌜ at < length (now bytes) / 4 ⌝ }
     ensures { λ r. ⌜ (at < r) × (r ≤ length (now (bytes .entry)) / 4) ⌝ }
 {
     let size = size_at(bytes, at);
     if size < 2 {
-        add(tally, tally::BROKEN, 0, 1);
+        add(tally, tally::BROKEN, 1, 0, 1);
         return bytes.len() / 4;
     }
     let after = at + size;
@@ -171,7 +159,7 @@ fn next(
     ) {
         return after;
     }
-    add(tally, tally::BROKEN, 0, 1);
+    add(tally, tally::BROKEN, 1, 0, 1);
     bytes.len() / 4
 }
 
@@ -181,7 +169,7 @@ fn replay(bytes: &[u8]) {
     let mut left = [0.0f32; FLOATS];
     let mut stored_elements = [0.0f64; ELEMENTS];
     let mut stored_fits = [0.0f64; FITS];
-    let mut tally = [0u64; tally::PLACES];
+    let mut tally = [0u64; PLACES];
     let units = bytes.len() / 4;
     let mut at = 0;
     while at < units {
@@ -200,7 +188,7 @@ fn replay(bytes: &[u8]) {
 
 // One byte more than the stored answers may have, so that too many are noticed: then the end is not read.
 fn main() {
-    let mut bytes = [0u8; 409601];
+    let mut bytes = [0u8; 1048577];
     let n = io::read_full(STDIN_FILENO, &mut bytes);
     replay(&bytes[..n]);
 }

@@ -8,3 +8,5 @@ pub mod Numbers
 pub mod Rows
 -- Laws        what the proofs' `search laws` goes by
 pub mod Laws
+-- Places      where something is counted: `own-place`, `none-left`, `past-all`
+pub mod Places

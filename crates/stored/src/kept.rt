@@ -7,16 +7,6 @@ use crate::units::shorter;
 use crate::units::single;
 use std::num::nearest_u32_to_f32;
 
-// The most numbers that are kept, or lent to a call. A recording has at most 2,048 samples, so B is at most that: its
-// half in places, four times it in work, and some numbers more that are no place.
-pub const FLOATS: usize = 4096;
-
-pub const ELEMENTS: usize = 4112;
-
-pub const FITS: usize = 8208;
-
-pub const WORK: usize = 8208;
-
 // A part of a sample: a whole number from -32,768 on, stored from 0 on, times the scale.
 fn part(stored: u32, scale: f32) -> f32 {
     (nearest_u32_to_f32(stored) - 32768.0) * scale
@@ -60,4 +50,25 @@ pub fn list(body: &[u8], row: &mut [f64]) {
     for i in 0..n {
         row[i] = double(body, 2 * i);
     }
+}
+
+// A record that puts numbers into what is kept; answers whether its kind is known.
+pub fn put(
+    kind: usize,
+    body: &[u8],
+    iq: &mut [f32],
+    left: &mut [f32],
+    stored_elements: &mut [f64],
+    stored_fits: &mut [f64],
+) -> bool {
+    match kind {
+        1 => recording(body, iq),
+        2 => floats(body, iq),
+        3 => copied(iq, left),
+        4 => floats(body, left),
+        5 => list(body, stored_elements),
+        6 => list(body, stored_fits),
+        _ => return false,
+    }
+    true
 }

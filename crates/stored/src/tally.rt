@@ -1,32 +1,56 @@
 // What is counted, each at its place in a row of counts.
+ghost use mathlib.Core.Path.{_≡_};
+ghost use mathlib.Core.Bool.{cond};
+ghost use Prim.Native.Nat.{_+_, _-_, _^_, _<_, min};
+ghost use Rattle.stored.specs.Tally.{placeOf, plus};
+
+// As many calls, numbers of a refusal (0 stands for what is accepted) and hypotheses as there is room for.
+pub const CALLS: usize = 24;
+
+pub const NUMBERS: usize = 20;
+
+pub const HYPOTHESES: usize = 4;
 
 // The calls, in the order of crates/replay/README.md: how many were asked, and how many of them answered as the Rust
 // does.
 pub const ASKED: usize = 0;
 
-pub const EQUAL: usize = 8;
-// Refusals, by their number; 0 stands for those that are accepted.
-pub const REFUSED: usize = 16;
+pub const EQUAL: usize = ASKED + CALLS;
+
+// Refusals, by their number.
+pub const REFUSED: usize = EQUAL + CALLS;
+
 // Accepted runs, by their hypothesis.
-pub const HYPOTHESIS: usize = 24;
+pub const HYPOTHESIS: usize = REFUSED + NUMBERS;
+
 // Runs that said taken, and the samples that they changed.
-pub const TAKEN: usize = 28;
+pub const TAKEN: usize = HYPOTHESIS + HYPOTHESES;
 
-pub const CHANGED: usize = 29;
+pub const CHANGED: usize = TAKEN + 1;
 
-// Ends of the stored answers, and records that are not whole or of no known kind.
-pub const ENDS: usize = 30;
+// Cases that are meant to differ, and how many of them do.
+pub const MEANT: usize = CHANGED + 1;
 
-pub const BROKEN: usize = 31;
+pub const UNEQUAL: usize = MEANT + 1;
 
-pub const PLACES: usize = 32;
+// Ends of the stored answers.
+pub const ENDS: usize = UNEQUAL + 1;
 
-pub fn only_if(yes: bool, n: u64) -> u64 {
+// Records that are not whole or of no known kind, and what has no place of its own.
+pub const BROKEN: usize = ENDS + 1;
+
+pub const PLACES: usize = BROKEN + 1;
+
+pub fn only_if(yes: bool, n: u64) -> u64
+    ensures { λ r. ⌜ r ≡ cond yes n 0 ⌝ }
+{
     if yes { n } else { 0 }
 }
 
 // A sum that stops at the largest number.
-pub fn sum(a: u64, b: u64) -> u64 {
+pub fn sum(a: u64, b: u64) -> u64
+    ensures { λ r. ⌜ r ≡ min (a + b) (2 ^ 64 - 1) ⌝ }
+{
     if a <= 0xffff_ffff_ffff_ffff - b {
         a + b
     } else {
@@ -34,35 +58,33 @@ pub fn sum(a: u64, b: u64) -> u64 {
     }
 }
 
-// Counts at a place that is k after the first of its kind.
-pub fn add(tally: &mut [u64], first: usize, k: usize, more: u64) {
-    if k < 8 {
+// The place that is k after the first of its kind, of which there are so many.
+fn place(first: usize, places: usize, k: usize) -> usize
+    ensures { λ r. ⌜ (r ≡ placeOf first places k) × (r < 78) ⌝ }
+{
+    if k < places {
         if first < PLACES {
-            let i = first + k;
-            if i < tally.len() {
-                tally[i] = sum(tally[i], more);
+            if k < PLACES - first {
+                return first + k;
             }
         }
     }
+    BROKEN
 }
 
-pub fn at(tally: &[u64], first: usize, k: usize) -> u64 {
-    if k < 8 {
-        if first < PLACES {
-            let i = first + k;
-            if i < tally.len() {
-                return tally[i];
-            }
-        }
-    }
-    0
+// Counts there. What has no place is counted as broken, so that nothing is lost.
+pub fn add(tally: &mut [u64; PLACES], first: usize, places: usize, k: usize, more: u64)
+    ensures { λ _. ⌜ now (tally .exit) ≡ plus first places k more (now (tally .entry)) ⌝ }
+{
+    let i = place(first, places, k);
+    tally[i] = sum(tally[i], more);
 }
 
 // Of all calls.
-pub fn all(tally: &[u64], first: usize) -> u64 {
+pub fn all(tally: &[u64; PLACES], first: usize) -> u64 {
     let mut total = 0;
-    for k in 0..8 {
-        total = sum(total, at(tally, first, k));
+    for k in 0..CALLS {
+        total = sum(total, tally[place(first, CALLS, k)]);
     }
     total
 }

@@ -107,3 +107,18 @@ pub fn single(bytes: &[u8], i: usize) -> f32 {
     }
     one[0]
 }
+
+// The size of the record at a unit, 0 where it is not whole.
+pub fn size_at(bytes: &[u8], at: usize) -> usize
+    requires { ⌜ at < length (now bytes) / 4 ⌝ }
+    ensures { λ r. ⌜ at + r ≤ length (now (bytes .entry)) / 4 ⌝ }
+{
+    let size = count(bytes, at + 1);
+    if size < 2 {
+        return 0;
+    }
+    if bytes.len() / 4 - at < size {
+        return 0;
+    }
+    size
+}

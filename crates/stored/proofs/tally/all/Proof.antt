@@ -1,14 +1,14 @@
--- `stored::tally::all` is safe and ends. Assumes nothing.
+-- `stored::tally::all` meets its contract. Assumes nothing.
 use Prim.Native.Nat.{_≤_, _-_}
 use borrow.Author.Needs.{needs}
 use Rattle.stored.proofs.tally.all.Statement.{statement}
 use Rattle.stored.proofs.tally.all.Tie as tie
 
 abbrev Inv-loop : tie.InvT-loop
-Inv-loop tally first total₀ k₀ total k = k ≤ 8
+Inv-loop tally first total₀ k₀ total k = k ≤ 24
 
 abbrev μ-loop : tie.MeasureT-loop
-μ-loop tally first total₀ k₀ total k = 8 - k
+μ-loop tally first total₀ k₀ total k = 24 - k
 
 pub all-spec : {M : Type 1} → statement M
 all-spec =
@@ -18,6 +18,8 @@ all-spec =
     μ-loop
     (λ c. search needs)
     (λ c κs. search needs)
+    (λ c. search needs)
+    (λ c. search needs)
     (λ c κs. search needs)
     (λ c. search needs)
     (λ c. search needs)
