@@ -48,12 +48,12 @@ module _ (iq : List Float) (fs hz step : Float) (elements : List Float) (element
   abbrev class : ℕ → BlockClass
   class = classOf fs (samples iq) (fitsIn fits fit-count) (elementsIn elements element-count)
 
-  abbrev nb : ℕ
-  nb = blocks iq (windowOf fs)
+  abbrev block-count : ℕ
+  block-count = blocks iq (windowOf fs)
 
   -- ---- residual_check: what is left of the blocks of a class
   abbrev left : BlockClass → List Float
-  left c = powersOf c class (residualMean fs nb (fitsIn fits fit-count) (blockMean iq (hz ⊘ fs) (windowOf fs))) nb
+  left c = powersOf c class (residualMean fs block-count (fitsIn fits fit-count) (blockMean iq (hz ⊘ fs) (windowOf fs))) block-count
 
   module _ (few : fit-count ≤ 2 ^ 40) where
     left-plain : MeasureAccepted iq fs hz step elements element-count fits fit-count (length work) → (c : BlockClass) (i : ℕ) → i < length (left c) → Plain (getD (left c) i nan)
@@ -71,16 +71,16 @@ module _ (iq : List Float) (fs hz step : Float) (elements : List Float) (element
 
   -- ---- second_carrier_evidence: the gap blocks beside the carrier, and the interior blocks at it
   abbrev side : List Float
-  side = sideOf (meanAt iq fs) hz (isIn Gap class) nb
+  side = sideOf (meanAt iq fs) hz (isIn Gap class) block-count
 
   abbrev interior : List Float
-  interior = powersOf Interior class (meanAt iq fs hz) nb
+  interior = powersOf Interior class (meanAt iq fs hz) block-count
 
   pub evidence-ranked : (r : SecondCarrierEvidence) → evidenceOutcome (evidence.Done r) work-after ≡ evidenceRule iq fs hz step elements element-count fits fit-count work
       → ((i : ℕ) → i < length side → Plain (getD side i nan)) × ((i : ℕ) → i < length interior → Plain (getD interior i nan))
   unfolding evidenceRule
   evidence-ranked r promise =
       let known = measure-accepted iq fs hz step elements element-count fits fit-count (length work) (accepted-by _ _ _ _ promise .0) in (
-        λ i h. amount-plain (getD side i nan) (every-at Amount side (side-amounts iq fs singles (known .iq-ok) (isIn Gap class) nb (omega arith) hz) i h),
-        λ i h. amount-plain (getD interior i nan) (every-at Amount interior (powers-amounts iq fs singles (known .iq-ok) (isIn Interior class) nb (omega arith) hz) i h),
+        λ i h. amount-plain (getD side i nan) (every-at Amount side (side-amounts iq fs singles (known .iq-ok) (isIn Gap class) block-count (omega arith) hz) i h),
+        λ i h. amount-plain (getD interior i nan) (every-at Amount interior (powers-amounts iq fs singles (known .iq-ok) (isIn Interior class) block-count (omega arith) hz) i h),
       )

@@ -1,7 +1,6 @@
 -- `estimate_strong`: what it, and the run, which asks the same, go on with where every answer is yes, and what its
 -- promise says. Assumes nothing.
 use Prim.Native.Nat.{ℕ, _*_, _/_, _≤_}
-use native.Mathlib.Omega.{arith}
 use mathlib.Core.Path.{_≡_, refl, ap}
 use mathlib.Core.Bool.{true, false}
 use mathlib.Core.List.{List, List·Memᴰ}
@@ -13,12 +12,10 @@ use Rattle.row.proofs.Steps.{rate-is}
 use Rattle.elements.specs.declared.element.KeyedElement.{KeyedElement}
 use Rattle.lists.specs.Records.{Handed, handed}
 use Rattle.elements.specs.Element.{ELEMENT}
-use Rattle.elements.proofs.Recording.{all-counted, enough-places}
 use Rattle.fits.specs.declared.fit.ElementFit.{ElementFit}
 use Rattle.fits.specs.declared.estimate.Estimate.{Estimate}
 use Rattle.fits.specs.List.{FIT}
-use Rattle.fits.specs.Estimate.{refined, strongEstimate, strongElements, strongFits}
-use Rattle.fits.proofs.Strong.{strong-counted}
+use Rattle.fits.specs.Estimate.{strongEstimate, strongElements, strongFits}
 use Rattle.strong.specs.declared.estimate.EstimateAnswer.{EstimateAnswer}
 use Rattle.strong.specs.declared.estimate.EstimateAnswer.the-variants.{Refused, Done}
 use Rattle.questions.specs.Answers.{accepted, refused}
@@ -52,20 +49,6 @@ pub estimate-result : (d e : Estimate) (h i : Handed KeyedElement) (j k : Handed
     → _≡_ {A = EstimateResult} (record { estimate = d; elements = h; fits = j; work = v }) (record { estimate = e; elements = i; fits = k; work = w })
 estimate-result d e h i j k v w a b c g = rw (a, b, c, g)
 
--- ---- what it counts
-
-module _ (iq : List Float) (fs hint : Float) where
-  strong-fitted : strongEstimate iq fs hint .fitted ≤ strongEstimate iq fs hint .found .listed
-  strong-fitted = let all = strong-counted iq fs hint in omega arith
-
-  strong-listed : strongEstimate iq fs hint .found .listed ≤ stepBlocks iq fs / 2
-  unfolding strongEstimate
-  strong-listed =
-      let carrier = refined iq fs hint in
-      let all = all-counted iq fs carrier in
-      let most = enough-places iq fs carrier in
-      omega arith
-
 -- ---- what its promise says of a refusal, and of an accepted call
 
 module _ (iq : List Float) (fs hint : Float) (elements fits work : List Float) where
@@ -77,16 +60,6 @@ module _ (iq : List Float) (fs hint : Float) (elements fits work : List Float) w
       let told = accepted-by _ _ _ r e in
       let part = told .1 in
       (told .0, ap (λ (r : EstimateResult). r .estimate) part, ap (λ (r : EstimateResult). r .elements) part, ap (λ (r : EstimateResult). r .fits) part)
-
-  -- the fits are no more than the elements listed, and these have places in the list
-  pub estimate-counts : (r : EstimateResult) → accepted r ≡ estimateRule iq fs hint elements fits work
-      → (r .estimate .fitted ≤ r .estimate .found .listed) × (ELEMENT * r .estimate .found .listed ≤ length elements)
-  estimate-counts r e =
-      let told = estimate-done r e in
-      let places = estimate-accepted iq fs hint _ _ _ (told .0) .places in
-      let few = strong-fitted iq fs hint in
-      let most = strong-listed iq fs hint in
-      rw (told .1) (few, omega arith)
 
   -- its number is that of a question it asks, answered no
   pub estimate-number : (n : ℕ) (lent : List Float × List Float × List Float) → refused n lent ≡ estimateRule iq fs hint elements fits work
