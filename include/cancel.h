@@ -44,7 +44,8 @@
  * logic that has one NaN, and that a NaN keeps its bits as well is not proved but compared. On a 0 all figures are
  * written, and the first places of the lists to be filled, as many as the figures count; what the places after them and
  * the work slice then hold is not said. Recordings and lists that are lent as const are never written, and the buffer
- * only as its call says.
+ * only as its call says. A figure that counts is a whole number below 2^53, so that it is exact as a double and
+ * converts to uint64_t with nothing lost.
  *
  * cancel_version, cancel_blocks and the functions of numbers at the end refuse nothing and return what they compute.
  *

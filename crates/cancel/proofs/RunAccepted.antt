@@ -14,7 +14,7 @@ use Rattle.elements.specs.Element.{ELEMENT}
 use Rattle.fits.specs.declared.fit.ElementFit.{ElementFit}
 use Rattle.fits.specs.List.{FIT}
 use Rattle.fits.specs.Estimate.{strongElements, strongFits}
-use Rattle.engine.specs.declared.run.Figures.{Figures}
+use Rattle.engine.specs.declared.run.RunFigures.{RunFigures}
 use Rattle.engine.specs.Run.{runFigures, runBuffer}
 use Rattle.cancel.specs.declared.running.RunAnswer.{RunAnswer}
 use Rattle.cancel.specs.declared.running.RunAnswer.the-variants.{Refused, Done}
@@ -24,7 +24,7 @@ use Rattle.cancel.specs.Running.{RunResult, runOutcome, runRule}
 use Rattle.questions.proofs.Calls.{accepted-by, refused-asked, never-refused}
 
 -- a result is the same as another if its parts are
-pub run-result : (f g : Figures) (b c : List Float) (h i : Handed KeyedElement) (j k : Handed ElementFit) (v w : ℕ) → f ≡ g → b ≡ c → h ≡ i → j ≡ k → v ≡ w
+pub run-result : (f g : RunFigures) (b c : List Float) (h i : Handed KeyedElement) (j k : Handed ElementFit) (v w : ℕ) → f ≡ g → b ≡ c → h ≡ i → j ≡ k → v ≡ w
     → _≡_ {A = RunResult} (record { figures = f; buffer = b; elements = h; fits = j; work = v })
     (record { figures = g; buffer = c; elements = i; fits = k; work = w })
 run-result f g b c h i j k v w p q r s t = rw (p, q, r, s, t)

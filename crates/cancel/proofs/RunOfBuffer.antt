@@ -54,7 +54,7 @@ use Rattle.measure.proofs.Bounds.{Gains, gains-all, amount-plain, left-powers}
 use Rattle.measure.proofs.Levels.{powers-amounts, side-amounts}
 use Rattle.measure.proofs.Reach.{residual-reach}
 use Rattle.measure.proofs.ReachEvidence.{evidence-check-reach}
-use Rattle.engine.specs.declared.run.Figures.{Figures}
+use Rattle.engine.specs.declared.run.RunFigures.{RunFigures}
 use Rattle.engine.specs.Run.{takes, runClass, runTaken, runFigures, runBuffer}
 
 -- A number of a list on which `total_cmp` order is the order of the values: finite, not negative, and no −0.0.
@@ -62,7 +62,7 @@ abbrev pub Plain : Float → Type 0
 Plain x = (finiteF x ≡ true) × (le plus-zero x ≡ true) × (minusZero x ≡ false)
 
 module _ (buf : List Float) (fs hint : Float) where
-  abbrev ran : Figures
+  abbrev ran : RunFigures
   ran = runFigures buf fs hint
 
   -- ---- The final estimate: the carrier is refined from the first pass, and the rest is the second pass at it.

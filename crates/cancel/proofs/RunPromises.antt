@@ -42,7 +42,7 @@ use Rattle.measure.specs.Residual.{residualCheckOf}
 use Rattle.measure.specs.Evidence.{isIn, evidenceCheckOf}
 use Rattle.measure.specs.Hypothesis.{hypothesisOf}
 use Rattle.measure.specs.Agree.{AgreeIn}
-use Rattle.engine.specs.declared.run.Figures.{Figures}
+use Rattle.engine.specs.declared.run.RunFigures.{RunFigures}
 use Rattle.engine.specs.Run.{takes, runFigures, runBuffer}
 use Rattle.cancel.specs.declared.running.RunAnswer.the-variants.{Done}
 use Rattle.cancel.specs.Running.{runOutcome, runRule}
@@ -51,7 +51,7 @@ use Rattle.cancel.proofs.RunAccepted.{run-done}
 use Rattle.cancel.proofs.RunOfBuffer.{Plain}
 use Rattle.cancel.proofs.RunOfBuffer as ran
 
-module _ (buf : List Float) (fs hint : Float) (elements fits work : List Float) (f : Figures) (buffer-after elements-after fits-after work-after : List Float)
+module _ (buf : List Float) (fs hint : Float) (elements fits work : List Float) (f : RunFigures) (buffer-after elements-after fits-after work-after : List Float)
     (promise : runOutcome (Done f) buffer-after elements-after fits-after work-after ≡ runRule buf fs hint elements fits work) where
   -- the elements and the fits handed out
   abbrev elements-out : List KeyedElement
@@ -202,7 +202,7 @@ module _ (buf : List Float) (fs hint : Float) (elements fits work : List Float) 
 -- ---- Two accepted runs alike in length, rate, final estimate in the Rust's own fields, and every sample of the edge,
 -- interior and gap blocks have the same residual figures, evidence and hypothesis, whatever the samples elsewhere, the
 -- hints, the lists and the positions are.
-module _ (buf buf' : List Float) (fs hint hint' : Float) (elements elements' fits fits' work work' : List Float) (f g : Figures)
+module _ (buf buf' : List Float) (fs hint hint' : Float) (elements elements' fits fits' work work' : List Float) (f g : RunFigures)
     (buffer-after buffer-after' elements-after elements-after' fits-after fits-after' work-after work-after' : List Float)
     (one : runOutcome (Done f) buffer-after elements-after fits-after work-after ≡ runRule buf fs hint elements fits work)
     (two : runOutcome (Done g) buffer-after' elements-after' fits-after' work-after' ≡ runRule buf' fs hint' elements' fits' work')

@@ -10,7 +10,7 @@ use Rattle.elements.specs.Element.{ELEMENT, handedElements}
 use Rattle.fits.specs.declared.fit.ElementFit.{ElementFit}
 use Rattle.fits.specs.List.{FIT, handedFits}
 use Rattle.fits.specs.Estimate.{strongElements, strongFits}
-use Rattle.engine.specs.declared.run.Figures.{Figures}
+use Rattle.engine.specs.declared.run.RunFigures.{RunFigures}
 use Rattle.engine.specs.Run.{runFigures, runBuffer}
 use Rattle.cancel.specs.declared.running.RunAnswer.{RunAnswer}
 use Rattle.cancel.specs.declared.running.RunAnswer.the-variants.{Refused, Done}
@@ -20,7 +20,7 @@ use Rattle.questions.specs.Questions.{estimateQuestions}
 -- Every figure, what the buffer holds, the elements and the fits that the lists hand out, and the length of the work
 -- slice.
 pub record RunResult : Type 0 where
-  pub figures : Figures
+  pub figures : RunFigures
   pub buffer : List Float
   pub elements : Handed KeyedElement
   pub fits : Handed ElementFit

@@ -12,7 +12,7 @@ pub use elements::Found;
 pub use elements::KeyedElement;
 pub use elements::Threshold;
 pub use elements::element_at;
-pub use engine::Figures;
+pub use engine::RunFigures;
 pub use fits::ElementFit;
 pub use fits::Estimate;
 pub use fits::FIT;

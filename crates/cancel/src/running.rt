@@ -1,5 +1,5 @@
 // run, open to callers.
-use engine::Figures;
+use engine::RunFigures;
 use questions::estimate_no;
 ghost use mathlib.Core.Path.{_≡_};
 ghost use Rattle.row.specs.Samples.{Singles};
@@ -7,7 +7,7 @@ ghost use Rattle.cancel.specs.Running.{runOutcome, runRule};
 
 pub enum RunAnswer {
     Refused(u64),
-    Done(Figures),
+    Done(RunFigures),
 }
 
 // The run: it asks first, what estimate_strong asks; then estimate, residual check, evidence and hypothesis, and the

@@ -10,7 +10,7 @@ use Rattle.row.specs.Window.{Rate, windowOf, samples, blocks}
 use Rattle.row.proofs.Means.{blocks-short}
 use Rattle.row.proofs.Steps.{step-high}
 use Rattle.fits.specs.Estimate.{refined, strongElements, strongFits, strongEstimate}
-use Rattle.engine.specs.declared.run.Figures.{Figures}
+use Rattle.engine.specs.declared.run.RunFigures.{RunFigures}
 use Rattle.engine.specs.Run.{runFigures}
 use Rattle.cancel.specs.declared.running.RunAnswer.the-variants.{Done}
 use Rattle.cancel.specs.Running.{runOutcome, runRule}
@@ -24,7 +24,7 @@ use Rattle.capi.proofs.Counts.{count-exact, estimate-counts, residual-c
 use Rattle.capi.proofs.RunForC.{run-for-c}
 
 module _ (buf : List Float) (fs hint : Float) (q : Iq buf) (r : Rate fs) where
-  abbrev f : Figures
+  abbrev f : RunFigures
   f = runFigures buf fs hint
 
   pub run-counts : Counts (ranFigures f) 0 (firstCounts f) × Counts (ranFigures f) (RUN_RESIDUAL + RESIDUAL_COUNTS) (measuredCounts f)

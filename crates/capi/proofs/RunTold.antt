@@ -5,13 +5,13 @@ use mathlib.Core.List.{List}
 use lib.Ieee.{Float}
 use Rattle.elements.specs.Element.{handedElements}
 use Rattle.fits.specs.List.{handedFits}
-use Rattle.engine.specs.declared.run.Figures.{Figures}
+use Rattle.engine.specs.declared.run.RunFigures.{RunFigures}
 use Rattle.figures.specs.Running.{ranFigures}
 use Rattle.capi.specs.Calls.{Called}
 use Rattle.capi.specs.Running.{Left}
 
 -- it has the figures of its answer, and counts what the rules count
-pub run-told : (work : ℕ) (figures : List Float) (f g : Figures) (buf left fits-left : List Float) → f ≡ g → figures ≡ ranFigures f
+pub run-told : (work : ℕ) (figures : List Float) (f g : RunFigures) (buf left fits-left : List Float) → f ≡ g → figures ≡ ranFigures f
     → _≡_ {A = Called Left}
     (record {
       figures = figures;

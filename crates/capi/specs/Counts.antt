@@ -6,7 +6,7 @@ use mathlib.Core.List.{List, [], _∷_}
 use lib.ListN.{getD}
 use lib.Ieee.{Float, nan, toUnsigned}
 use lib.Ieee.Exact.{HasValue}
-use Rattle.engine.specs.declared.run.Figures.{Figures}
+use Rattle.engine.specs.declared.run.RunFigures.{RunFigures}
 
 -- A figure is the count n with nothing lost: its value is n, which is below 2^53, and C's conversion to a whole number
 -- of 64 bits gives n.
@@ -25,10 +25,10 @@ abbrev pub whole : List Float → ℕ → ℕ
 whole figures at = toUnsigned 64 (getD figures at nan)
 
 -- The counts of a run, in their order: those up to other, and behind the ratios the blocks of both measures.
-abbrev pub firstCounts : Figures → List ℕ
+abbrev pub firstCounts : RunFigures → List ℕ
 firstCounts f =
     f .samples ∷ f .window ∷ f .estimate .found .«key_downs» ∷ f .estimate .found .listed ∷ f .estimate .found .short ∷ f .estimate .fitted ∷ f .skipped
     ∷ f .estimate .found .airtime ∷ f .blocks ∷ f .classes .edge ∷ f .classes .interior ∷ f .classes .gap ∷ f .classes .other ∷ []
 
-abbrev pub measuredCounts : Figures → List ℕ
+abbrev pub measuredCounts : RunFigures → List ℕ
 measuredCounts f = f .residual .«edge_blocks» ∷ f .residual .«interior_blocks» ∷ f .residual .«gap_blocks» ∷ f .evidence .«gap_blocks» ∷ []

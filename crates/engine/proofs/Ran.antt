@@ -19,19 +19,19 @@ use Rattle.measure.specs.declared.both.Measures.{Measures}
 use Rattle.measure.specs.declared.hypothesis.Hypothesis.{Hypothesis}
 use Rattle.measure.specs.Both.{measuresOf}
 use Rattle.measure.specs.Hypothesis.{hypothesisOf}
-use Rattle.engine.specs.declared.run.Figures.{Figures}
+use Rattle.engine.specs.declared.run.RunFigures.{RunFigures}
 use Rattle.engine.specs.Run.{takes, runEvidence, runResidual, runTaken, runFigures, runBuffer}
 use Rattle.engine.proofs.Counts.{skipped-is}
 
 -- the estimate and the word of what was found out
-module _ (iq : List Float) (fs hint : Float) (f : Figures) (q : f ≡ runFigures iq fs hint) where
+module _ (iq : List Float) (fs hint : Float) (f : RunFigures) (q : f ≡ runFigures iq fs hint) where
   pub its-estimate : f .estimate ≡ strongEstimate iq fs hint
   unfolding runFigures
-  its-estimate = ap (λ (g : Figures). g .estimate) q
+  its-estimate = ap (λ (g : RunFigures). g .estimate) q
 
   pub its-word : f .taken ≡ runTaken iq fs hint
   unfolding runFigures
-  its-word = ap (λ (g : Figures). g .taken) q
+  its-word = ap (λ (g : RunFigures). g .taken) q
 
 module _ (iq : List Float) (fs hint : Float) (e : Estimate) (q : e ≡ strongEstimate iq fs hint) (els l fits k : List Float)
     (p : handedElements els (e .found .listed) ≡ handed ELEMENT (strongElements iq fs hint) l)
@@ -61,7 +61,7 @@ module _ (iq : List Float) (fs hint : Float) (e : Estimate) (q : e ≡ strongEst
   pub found-out : (step : ℕ) (m : Measures) (h : Hypothesis) (taken : Bool) → step ≡ stepOf fs
       → m ≡ measuresOf iq fs (e .«carrier_hz») (fitsIn fits (e .fitted)) (elementsIn els (e .found .listed))
       → h ≡ hypothesisOf (m .evidence) → taken ≡ takes h (e .fitted) (e .«carrier_step_hz») (m .residual)
-      → _≡_ {A = Figures}
+      → _≡_ {A = RunFigures}
       (record {
         samples = samples iq;
         window = 8 * step;

@@ -23,7 +23,7 @@ use Rattle.measure.specs.declared.hypothesis.Hypothesis.the-variants.{OneSignal
 use Rattle.measure.specs.Residual.{residualCheckOf, cleanOf}
 use Rattle.measure.specs.Evidence.{evidenceCheckOf}
 use Rattle.measure.specs.Hypothesis.{hypothesisOf}
-use Rattle.engine.specs.declared.run.Figures.{Figures}
+use Rattle.engine.specs.declared.run.RunFigures.{RunFigures}
 
 -- whether a hypothesis is TwoSignalCw
 abbrev pub isTwo : Hypothesis → Bool
@@ -51,7 +51,7 @@ module _ (iq : List Float) (fs hint : Float) where
   runTaken = takes (hypothesisOf runEvidence) (length (strongFits iq fs hint)) (carrierStep iq fs hint) runResidual
 
   -- every figure, and whether the strong sender was taken off
-  unfoldable pub runFigures : Figures
+  unfoldable pub runFigures : RunFigures
   runFigures =
       record {
         samples = samples iq;

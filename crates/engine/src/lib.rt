@@ -2,4 +2,4 @@
 // it run::run, as the module has that name here.
 pub mod run;
 
-pub use run::Figures;
+pub use run::RunFigures;

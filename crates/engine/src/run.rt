@@ -26,7 +26,7 @@ ghost use Rattle.synth.specs.Removal.{subtracted};
 ghost use Rattle.engine.specs.Run.{isTwo, takes, runFigures, runBuffer};
 
 // Every figure of a run, and whether the strong sender was taken off.
-pub struct Figures {
+pub struct RunFigures {
     pub samples: usize,
     pub window: usize,
     pub estimate: Estimate,
@@ -98,7 +98,7 @@ fn find_out(
     fits: &mut [f64],
     work: &mut [f64],
     sine: &[f64; 1025],
-) -> Figures
+) -> RunFigures
     requires { ⌜ Iq (now iq) ⌝ }
     requires { ⌜ Rate fs ⌝ }
     requires { ⌜ now sine ≡ quarterSines ⌝ }
@@ -123,7 +123,7 @@ fn find_out(
     let evidence = m.evidence;
     let hypothesis = classify(evidence);
     let taken = takes_off(hypothesis, fitted, estimate.carrier_step_hz, residual);
-    Figures {
+    RunFigures {
         samples,
         window,
         estimate,
@@ -146,7 +146,7 @@ pub fn run(
     fits: &mut [f64],
     work: &mut [f64],
     sine: &[f64; 1025],
-) -> Figures
+) -> RunFigures
     requires { ⌜ Iq (now buf) ⌝ }
     requires { ⌜ Rate fs ⌝ }
     requires { ⌜ now sine ≡ quarterSines ⌝ }

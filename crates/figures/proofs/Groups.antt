@@ -13,7 +13,7 @@ use Rattle.given.specs.declared.blocks.BlockClasses.{BlockClasses}
 use Rattle.measure.specs.declared.residual.ResidualCheck.{ResidualCheck}
 use Rattle.measure.specs.declared.evidence.SecondCarrierEvidence.{SecondCarrierEvidence}
 use Rattle.measure.specs.declared.hypothesis.Hypothesis.{Hypothesis}
-use Rattle.engine.specs.declared.run.Figures.{Figures}
+use Rattle.engine.specs.declared.run.RunFigures.{RunFigures}
 use Rattle.figures.specs.Calls.{foundFigures, fittedFigures, estimateFigures}
 use Rattle.figures.specs.Clean.{cleanFigures}
 use Rattle.figures.specs.Flag.{flagOf}
@@ -51,7 +51,7 @@ classify-figures h = refl
 pub clean-figures : (c : Bool) → length (cleanFigures c) ≡ CLEAN_FIGURES
 clean-figures c = refl
 
-pub run-figures : (f : Figures) → length (ranFigures f) ≡ RUN_FIGURES
+pub run-figures : (f : RunFigures) → length (ranFigures f) ≡ RUN_FIGURES
 run-figures f = refl
 
 -- a check that is given is what residual_check answers first
@@ -62,7 +62,7 @@ check-figures r = refl
 pub estimate-found : (e : Estimate) → take FIND_FIGURES (drop ESTIMATE_COUNTS (estimateFigures e)) ≡ foundFigures (e .found)
 estimate-found e = refl
 
-module _ (f : Figures) where
+module _ (f : RunFigures) where
   pub run-key-downs : getD (ranFigures f) RUN_KEY_DOWNS nan ≡ of (f .estimate .found .«key_downs»)
   run-key-downs = refl
 

@@ -4,12 +4,12 @@ use crate::hypothesis::case_of;
 use crate::measures::hertz;
 use crate::measures::present;
 use crate::places::RUN_FIGURES;
-use engine::Figures;
+use engine::RunFigures;
 use float::from_whole;
 ghost use mathlib.Core.Path.{_≡_};
 ghost use Rattle.figures.specs.Running.{ranFigures};
 
-pub fn of_run(f: Figures) -> [f64; RUN_FIGURES]
+pub fn of_run(f: RunFigures) -> [f64; RUN_FIGURES]
     ensures { λ r. ⌜ r ≡ ranFigures f ⌝ }
 {
     let estimate = f.estimate;

@@ -4,11 +4,11 @@ use mathlib.Core.Path.{_≡_, ap, _∙_}
 use mathlib.Core.List.{List, _++_}
 use lib.ListN.{length, length-append}
 use Rattle.elements.specs.declared.element.KeyedElement.{KeyedElement}
-use Rattle.engine.specs.declared.run.Figures.{Figures}
+use Rattle.engine.specs.declared.run.RunFigures.{RunFigures}
 use Rattle.format.specs.Ascii.{ascii}
 use Rattle.lines.specs.Lines.{sizeLine, keysLine, airLine, blocksLine, keyLines, hypothesisLine, bufferLine, countLines, runLines}
 
-pub count-length : (f : Figures) → length (countLines f)
+pub count-length : (f : RunFigures) → length (countLines f)
     ≡ length (sizeLine (f .samples) (f .window) (f .blocks)) + (length (keysLine (f .estimate .found) (f .estimate .fitted) (f .skipped))
     + (length (airLine (f .estimate .found .airtime)) + length (blocksLine (f .classes))))
 unfolding countLines
@@ -20,7 +20,7 @@ count-length f =
     length-append size (keys ++ (air ++ blocks))
     ∙ ap (λ (k : ℕ). length size + k) (length-append keys (air ++ blocks) ∙ ap (λ (k : ℕ). length keys + k) (length-append air blocks))
 
-pub run-length : (f : Figures) (es : List KeyedElement) → length (runLines f es)
+pub run-length : (f : RunFigures) (es : List KeyedElement) → length (runLines f es)
     ≡ 7 + (length (countLines f) + (length (keyLines es) + (length (hypothesisLine (f .hypothesis)) + length (bufferLine (f .taken)))))
 unfolding runLines
 run-length f es =

@@ -8,7 +8,7 @@ use Rattle.elements.specs.declared.keying.Found.{Found}
 use Rattle.classes.specs.declared.classify.ClassCounts.{ClassCounts}
 use Rattle.measure.specs.declared.hypothesis.Hypothesis.{Hypothesis}
 use Rattle.measure.specs.declared.hypothesis.Hypothesis.the-variants.{OneSignal, TwoSignalCw, NonCw, Unresolved}
-use Rattle.engine.specs.declared.run.Figures.{Figures}
+use Rattle.engine.specs.declared.run.RunFigures.{RunFigures}
 use Rattle.format.specs.Ascii.{ascii}
 use Rattle.format.specs.Text.{line}
 
@@ -49,11 +49,11 @@ bufferLine false = ascii "(buffer kept))\n"
 bufferLine true = ascii "(buffer taken))\n"
 
 -- the lines of counts, in their order
-unfoldable pub countLines : Figures → List ℕ
+unfoldable pub countLines : RunFigures → List ℕ
 countLines f =
     sizeLine (f .samples) (f .window) (f .blocks)
     ++ (keysLine (f .estimate .found) (f .estimate .fitted) (f .skipped) ++ (airLine (f .estimate .found .airtime) ++ blocksLine (f .classes)))
 
 -- of a run's figures and its listed elements
-unfoldable pub runLines : Figures → List KeyedElement → List ℕ
+unfoldable pub runLines : RunFigures → List KeyedElement → List ℕ
 runLines f es = ascii "(run 0\n" ++ (countLines f ++ (keyLines es ++ (hypothesisLine (f .hypothesis) ++ bufferLine (f .taken))))

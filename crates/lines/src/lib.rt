@@ -4,7 +4,7 @@ use classes::ClassCounts;
 use elements::Found;
 use elements::KeyedElement;
 use elements::element_at;
-use engine::Figures;
+use engine::RunFigures;
 use float::whole::to_whole;
 use format::append;
 use format::line;
@@ -47,7 +47,7 @@ fn blocks_line(out: &mut [u8], at: usize, classes: ClassCounts) -> usize
     line(out, at, b"(blocks", &numbers)
 }
 
-fn count_lines(out: &mut [u8], at: usize, f: Figures) -> usize
+fn count_lines(out: &mut [u8], at: usize, f: RunFigures) -> usize
     requires { ⌜ at + length (countLines f) ≤ length (now out) ⌝ }
     ensures { λ r. ⌜ Appended (now (out .entry)) at (countLines f) (now (out .exit)) r ⌝ }
 {
@@ -106,7 +106,7 @@ fn buffer_line(out: &mut [u8], at: usize, taken: bool) -> usize
 }
 
 // What the run answers and lists, line by line.
-pub fn run_lines(out: &mut [u8], f: Figures, elements: &[f64]) -> usize
+pub fn run_lines(out: &mut [u8], f: RunFigures, elements: &[f64]) -> usize
     requires { ⌜ ELEMENT * f .estimate .found .listed ≤ length (now elements) ⌝ }
     requires { ⌜ length (runLines f (elementsIn (now elements) (f .estimate .found .listed))) ≤ length (now out) ⌝ }
     ensures { λ r. ⌜ Appended (now (out .entry)) 0 (runLines f (elementsIn (now (elements .entry)) (f .estimate .found .listed))) (now (out .exit)) r ⌝ }

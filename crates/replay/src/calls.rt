@@ -3,12 +3,12 @@
 use cancel::Estimate;
 use cancel::EstimateAnswer;
 use cancel::EvidenceAnswer;
-use cancel::Figures;
 use cancel::FindAnswer;
 use cancel::FitAnswer;
 use cancel::Found;
 use cancel::ResidualAnswer;
 use cancel::RunAnswer;
+use cancel::RunFigures;
 use cancel::SecondCarrierEvidence;
 use cancel::SubtractAnswer;
 use elements::ELEMENT;
@@ -277,7 +277,7 @@ fn run_refused(
 
 fn run_filled(
     a: Asked,
-    f: Figures,
+    f: RunFigures,
     body: &[u8],
     stored_elements: &[f64],
     stored_fits: &[f64],
@@ -293,7 +293,7 @@ fn run_filled(
 
 fn run_done(
     a: Asked,
-    f: Figures,
+    f: RunFigures,
     body: &[u8],
     iq: &[f32],
     left: &[f32],

@@ -22,7 +22,7 @@ use Rattle.elements.proofs.Records.{elements-read}
 use Rattle.elements.proofs.Recording.{listed-counted}
 use Rattle.fits.specs.List.{FIT}
 use Rattle.fits.specs.Estimate.{refined, strongElements, strongEstimate}
-use Rattle.engine.specs.declared.run.Figures.{Figures}
+use Rattle.engine.specs.declared.run.RunFigures.{RunFigures}
 use Rattle.engine.specs.Run.{runFigures}
 use Rattle.cancel.specs.declared.running.RunAnswer.the-variants.{Refused, Done}
 use Rattle.questions.specs.Answers.{refused, accepted, byNumber}
@@ -106,7 +106,7 @@ module _ {iq : List Float} {fs hint : Float} {elements fits work : List Float} w
   refused-is n lent e l = ap (λ (k : ℕ). answered k iq) (sym (third l)) ∙ refused-first _ _ _ n lent iq e
 
   -- of an accepted run with these figures, and elements in a list
-  module _ (q : RunResult) (e : accepted q ≡ runRule iq fs hint elements fits work) (f : Figures) (els : List Float) (is-f : q .figures ≡ f)
+  module _ (q : RunResult) (e : accepted q ≡ runRule iq fs hint elements fits work) (f : RunFigures) (els : List Float) (is-f : q .figures ≡ f)
       (is-els : q .elements ≡ handedElements els (f .estimate .found .listed)) (l : Lent iq fs hint elements fits work) where
     figures-are : f ≡ runFigures iq RATE HINT
     figures-are = sym is-f ∙ run-done iq fs hint elements fits work q e .1 ∙ rw (l .is-rate, l .is-hint)
@@ -121,12 +121,12 @@ module _ {iq : List Float} {fs hint : Float} {elements fits work : List Float} w
 
     pub done-is : answered (firstNo (ask REFUSED_SAMPLE (allFinite iq) ∷ [])) iq ≡ runLines f (elementsIn els (f .estimate .found .listed))
     unfolding answered
-    done-is = rw (none-first, elements-are) (ap (λ (g : Figures). runLines g (strongElements iq RATE HINT)) (sym figures-are))
+    done-is = rw (none-first, elements-are) (ap (λ (g : RunFigures). runLines g (strongElements iq RATE HINT)) (sym figures-are))
 
     done-listed : f .estimate .found .listed ≤ 1024
     unfolding runFigures strongEstimate strongElements
     done-listed =
-        let same = ap (λ (g : Figures). g .estimate .found .listed) figures-are in
+        let same = ap (λ (g : RunFigures). g .estimate .found .listed) figures-are in
         let counted = listed-counted iq RATE (refined iq RATE HINT) in
         let most = listed-few iq (l .few) in
         omega arith

@@ -23,7 +23,7 @@ use Rattle.elements.proofs.Edges.{step-3000}
 use Rattle.fits.specs.Estimate.{refined, strongElements}
 use Rattle.measure.specs.declared.hypothesis.Hypothesis.{Hypothesis}
 use Rattle.measure.specs.declared.hypothesis.Hypothesis.the-variants.{OneSignal, TwoSignalCw, NonCw, Unresolved}
-use Rattle.engine.specs.declared.run.Figures.{Figures}
+use Rattle.engine.specs.declared.run.RunFigures.{RunFigures}
 use Rattle.engine.specs.Run.{runFigures}
 use Rattle.questions.specs.Questions.{firstNo}
 use Rattle.questions.proofs.FirstNo.{yes-at}
@@ -101,7 +101,7 @@ module _ (iq : List Float) (few : length iq ≤ 4096) where
 
 -- ---- the other lines
 
-counts-most : (f : Figures) → length (countLines f) ≤ 302
+counts-most : (f : RunFigures) → length (countLines f) ≤ 302
 counts-most f =
     let all = count-length f in
     let size = line-most (ascii "(size") (f .samples ∷ f .window ∷ f .blocks ∷ []) in
@@ -125,7 +125,7 @@ refusal-most n = let most = line-most (ascii "(run") (n ∷ []) in omega arith
 
 -- ---- the report
 
-run-most : (iq : List Float) → length iq ≤ 4096 → (f : Figures) → length (runLines f (strongElements iq RATE HINT)) ≤ ROOM
+run-most : (iq : List Float) → length iq ≤ 4096 → (f : RunFigures) → length (runLines f (strongElements iq RATE HINT)) ≤ ROOM
 run-most iq few f =
     let all = run-length f (strongElements iq RATE HINT) in
     let counts = counts-most f in
