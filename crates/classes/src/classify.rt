@@ -10,7 +10,7 @@ use elements::element_at;
 use fits::fit_at;
 ghost use mathlib.Core.Path.{_≡_};
 ghost use mathlib.Core.Bool.{true};
-ghost use Prim.Native.Nat.{_*_, _≤_, min};
+ghost use Prim.Native.Nat.{_*_, _≤_};
 ghost use lib.ListN.{length};
 ghost use Rattle.row.specs.Window.{Rate, windowOf};
 ghost use Rattle.elements.specs.Element.{ELEMENT, elementsIn};
@@ -54,13 +54,6 @@ fn past_last(len: usize, hi: f64) -> usize
     float::to_whole(float::max(float::floor((hi - half_of(len)) / l) + 1.0, 0.0))
 }
 
-// Rust: usize::min.
-fn lesser(a: usize, b: usize) -> usize
-    ensures { λ r. ⌜ r ≡ min a b ⌝ }
-{
-    if a < b { a } else { b }
-}
-
 // Rust: `vec![BlockClass::Gap; blocks]`.
 fn label_all(x: f64, class: &mut [f64])
     ensures { λ _. ⌜ now (class .exit) ≡ labelled (now (class .entry)) (λ b. true) x ⌝ }
@@ -78,7 +71,7 @@ fn label_range(len: usize, lo: f64, hi: f64, x: f64, class: &mut [f64])
     ensures { λ _. ⌜ now (class .exit) ≡ labelled (now (class .entry)) (inRange len lo hi) x ⌝ }
 {
     let a = first_from(len, lo);
-    let e = lesser(past_last(len, hi), class.len());
+    let e = float::least(past_last(len, hi), class.len());
     for b in a..e {
         class[b] = x;
     }
@@ -91,7 +84,7 @@ fn label_amid(len: usize, lo: f64, hi: f64, x: f64, class: &mut [f64])
     ensures { λ _. ⌜ now (class .exit) ≡ labelled (now (class .entry)) (amid len lo hi) x ⌝ }
 {
     let a = first_from(len, lo);
-    let e = lesser(past_last(len, hi), class.len());
+    let e = float::least(past_last(len, hi), class.len());
     let half = half_of(len);
     for b in a..e {
         let centre = float::exact(b * len) + half;

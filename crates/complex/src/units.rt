@@ -19,13 +19,6 @@ fn unit(x: f64, sine: &[f64; 1025]) -> Complex
     }
 }
 
-// The smaller of two lengths.
-fn shorter(a: usize, b: usize) -> usize
-    ensures { λ r. ⌜ (r ≤ a) × (r ≤ b) × (r ≡ min a b) ⌝ }
-{
-    if a <= b { a } else { b }
-}
-
 fn units(angles: &[f64], out: &mut [f64], n: usize, sine: &[f64; 1025])
     requires { ⌜ now sine ≡ quarterSines ⌝ }
     requires { ⌜ (n ≤ length (now angles)) × (n ≤ length (now out) / 2) ⌝ }
@@ -44,7 +37,7 @@ pub fn cos_sin(angles: &[f64], out: &mut [f64], sine: &[f64; 1025]) -> usize
     ensures { λ r. ⌜ (r ≡ min (length (now (angles .entry))) (length (now (out .entry)) / 2))
         × (now (out .exit) ≡ zFill (now (out .entry)) 0 (unitAt (now (angles .entry))) (min (length (now (angles .entry))) (length (now (out .entry)) / 2))) ⌝ }
 {
-    let n = shorter(angles.len(), out.len() / 2);
+    let n = float::least(angles.len(), out.len() / 2);
     units(angles, out, n, sine);
     n
 }

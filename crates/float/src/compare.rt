@@ -1,5 +1,6 @@
-// The size of a number, and the larger of two.
+// The size of a number, the larger of two, and the smaller of two whole numbers.
 ghost use mathlib.Core.Path.{_≡_};
+ghost use Prim.Native.Nat.{min};
 ghost use Rattle.float.specs.Compare.{absOf, maxOf};
 
 // Rust: f64::abs. 0.0 - x has its sign clear for either zero.
@@ -20,4 +21,11 @@ pub fn max(a: f64, b: f64) -> f64
     } else {
         a
     }
+}
+
+// Rust: usize::min.
+pub fn least(a: usize, b: usize) -> usize
+    ensures { λ r. ⌜ r ≡ min a b ⌝ }
+{
+    if a < b { a } else { b }
 }

@@ -6,6 +6,7 @@ pub mod size;
 pub mod whole;
 
 pub use compare::abs;
+pub use compare::least;
 pub use compare::max;
 pub use remainder::rem_euclid;
 pub use remainder::rem_one;

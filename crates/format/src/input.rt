@@ -30,10 +30,10 @@ pub enum Reading {
 fn asked(piece: usize, left: usize) -> usize
     ensures { λ r. ⌜ r ≡ min (max 1 piece) left ⌝ }
 {
-    if left <= piece {
-        return left;
+    if piece == 0 {
+        return float::least(1, left);
     }
-    if piece == 0 { 1 } else { piece }
+    float::least(piece, left)
 }
 
 fn meaning(read: Read, room: usize) -> Reading

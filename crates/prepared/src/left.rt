@@ -7,7 +7,6 @@ use fits::ElementFit;
 use fits::fit_at;
 use synth::Span;
 use synth::fit_span;
-use synth::span::least;
 use synth::synth_baseband;
 ghost use mathlib.Core.Path.{_≡_};
 ghost use Prim.Native.Nat.{ℕ, _+_, _*_, _≤_, _<_, max};
@@ -67,7 +66,7 @@ fn subtract_span(
 {
     let past = from + len;
     let a = most(s.lo, from);
-    let e = least(s.hi, past);
+    let e = float::least(s.hi, past);
     if a < e {
         subtract_from(z, f, fs, len, a, e - a, sine)
     } else {

@@ -5,7 +5,7 @@
 use crate::Percentile;
 ghost use mathlib.Core.Path.{_≡_};
 ghost use mathlib.Core.Bool.{true};
-ghost use Prim.Native.Nat.{_+_, _*_, _/_, _%_, _^_, _<_, _≤_, min};
+ghost use Prim.Native.Nat.{_+_, _*_, _/_, _%_, _^_, _<_, _≤_};
 ghost use lib.ListN.{length};
 ghost use Rattle.rank.specs.Select.{rankOf, percentileOf};
 ghost use Rattle.rank.specs.Inner.{
@@ -256,12 +256,6 @@ fn alike(v: &[f64]) -> bool
     first == middle && middle == last
 }
 
-fn smaller(a: u64, b: u64) -> u64
-    ensures { λ r. ⌜ r ≡ min a b ⌝ }
-{
-    if a < b { a } else { b }
-}
-
 // The ordinal at a rank, in digits of so many bits from the top. Most lists do not need all of them: where only one
 // value begins with the digits so far, it is the one. Where a quarter of the values begins with digits that reach
 // behind the exponent, or where all are expected to be nearly equal, the bits that these have in common are skipped.
@@ -278,7 +272,7 @@ fn by_digits(v: &[f64], rank: u64, bits: u64, equal: bool) -> u64
     let mut k = all.prefix;
     let mut left = rank;
     while 0 < s {
-        let b = smaller(bits, s);
+        let b = float::least(bits as usize, s as usize) as u64;
         let t = s - b;
         let step = pass(v, t, b, k, left);
         let p = (k << b) + step.digit;

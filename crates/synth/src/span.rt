@@ -2,20 +2,12 @@
 use constants::RISE_S;
 use fits::ElementFit;
 ghost use mathlib.Core.Path.{_≡_};
-ghost use Prim.Native.Nat.{min};
 ghost use Rattle.synth.specs.Span.{spanOf};
 
 // The samples from lo up to, not including, hi.
 pub struct Span {
     pub lo: usize,
     pub hi: usize,
-}
-
-// Rust: usize::min.
-pub fn least(a: usize, b: usize) -> usize
-    ensures { λ r. ⌜ r ≡ min a b ⌝ }
-{
-    if a <= b { a } else { b }
 }
 
 // Rust: fit_span.
@@ -26,9 +18,9 @@ pub fn fit_span(f: ElementFit, fs: f64, n: usize) -> Span
     let pad = 2.0 * RISE_S * fs;
     let lo = float::to_whole(float::max(float::floor(e.start - pad), 0.0));
     let past = float::to_whole(float::max(float::ceil(e.end + pad), 0.0));
-    let hi = least(past, n);
+    let hi = float::least(past, n);
     Span {
-        lo: least(lo, hi),
+        lo: float::least(lo, hi),
         hi,
     }
 }

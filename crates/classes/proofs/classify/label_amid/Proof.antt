@@ -49,7 +49,7 @@ unfolding amid
 returns c =
     let loop = c .before in
     let ended = loop .before .before in
-    label-range _ _ _ _ _ _ _ _ _ _ _ (ended .before .before .first-from .ensures) (rw (ended .before .past-last .ensures) at (ended .lesser .ensures)) (loop .loop .inv .3)
+    label-range _ _ _ _ _ _ _ _ _ _ _ (ended .before .before .first-from .ensures) (rw (ended .before .past-last .ensures) at (ended .least .ensures)) (loop .loop .inv .3)
     (search needs) (loop .loop .inv .1) (λ b. refl)
 
 pub label-amid-spec : {M : Type 1} → statement M

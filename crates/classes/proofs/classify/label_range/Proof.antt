@@ -26,7 +26,7 @@ returns c =
     let loop = c .before in
     let ended = loop .before in
     label-range _ _ _ _ _ (λ k. true) _ _ _ _ _ (ended .before .before .first-from .ensures)
-    (rw (ended .before .past-last .ensures) at (ended .lesser .ensures)) (loop .loop .inv .3) (search needs) (loop .loop .inv .1) (λ b. sym (and-true _))
+    (rw (ended .before .past-last .ensures) at (ended .least .ensures)) (loop .loop .inv .3) (search needs) (loop .loop .inv .1) (λ b. sym (and-true _))
 
 pub label-range-spec : {M : Type 1} → statement M
 label-range-spec =

@@ -34,21 +34,21 @@ module _ (c : tie.After-shared-slice-known Inv-loop μ-loop) where
   answer k left w = selected (c .before .args .v .now) (held (c .before .args .v .now) (c .shared-slice-known .given)) (c .before .args .rank) k left (c .before .pre .1 .0) w
 
 -- before a pass
-module _ (c : tie.After-smaller Inv-loop μ-loop) where
+module _ (c : tie.After-least Inv-loop μ-loop) where
   abbrev bits : ℕ
-  bits = c .smaller .result
+  bits = c .least .result
 
   abbrev places : ℕ
   places = c .before .before .loop .s - bits
 
   fits : bits ≤ c .before .before .loop .s
-  fits = omega (arith, c .smaller .ensures)
+  fits = omega (arith, c .least .ensures)
 
   short : bits ≤ 11
-  short = omega (arith, c .smaller .ensures, c .before .before .before .before .before .pre .1 .1 .1)
+  short = omega (arith, c .least .ensures, c .before .before .before .before .before .pre .1 .1 .1)
 
   place : places < c .before .before .loop .s
-  place = omega (arith, c .smaller .ensures, c .before .before .before .before .before .pre .1 .1 .0)
+  place = omega (arith, c .least .ensures, c .before .before .before .before .before .pre .1 .1 .0)
 
   cover : RankIn (c .before .before .before .before .before .args .v .now) (2 ^ places * 2 ^ bits) (c .before .before .before .before .before .args .rank) (c .before .before .loop .k) (c .before .before .loop .left)
   cover =
@@ -80,8 +80,8 @@ narrow-if-requires c κs = (le-refl 64, omega (arith, all c .inside))
 loop-holds : tie.Need-loop-holds Inv-loop μ-loop
 loop-holds c = (c .narrow-if .ensures .shorter, rank-narrowed (c .narrow-if .ensures) (all (c .before)))
 
-smaller-requires : tie.Need-smaller-requires Inv-loop μ-loop
-smaller-requires c κs = tt
+least-requires : tie.Need-least-requires Inv-loop μ-loop
+least-requires c κs = tt
 
 sub-t : tie.Need-sub-t Inv-loop μ-loop
 sub-t c = fits c
@@ -131,7 +131,7 @@ by-digits-spec =
     μ-loop
     narrow-if-requires
     loop-holds
-    smaller-requires
+    least-requires
     sub-t
     pass-requires
     shl-p
