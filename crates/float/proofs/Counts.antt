@@ -1,20 +1,19 @@
 -- Whole numbers as floats, up to 2 ^ prec, where a format has no gap. `whole-value` (the float has that value),
--- `whole-back` (`as usize` gives it back), `whole-injective`, `whole-lt` and `whole-le` (the tests are the numbers'
--- own), `whole-add`, `whole-sub`, `whole-mul` (single operations on them are rounded once: exact as long as the result
--- is such a number too). `of n` of `specs/Ops.antt` is `ofInt binary64 (pos n)`. Over any format but for the casts.
+-- `whole-back` (`as usize` gives it back), `whole-le` (the test is the numbers' own), `whole-add`, `whole-sub`,
+-- `whole-mul` (single operations on them are rounded once: exact as long as the result is such a number too). `of n` of `specs/Ops.antt` is `ofInt binary64 (pos n)`. Over any format but for the casts.
 -- Assumes nothing.
-use mathlib.Core.Path.{_≡_, refl, _∙_, subst}
+use mathlib.Core.Path.{_≡_, refl, _∙_}
 use Prim.Native.Nat.{ℕ, _+_, _-_, _*_, _^_, _≤_, _<_}
-use native.Mathlib.Nat.{le-trans, le-of-eq}
+use native.Mathlib.Nat.{le-trans}
 use native.Mathlib.Omega.{arith}
 use mathlib.Core.Bool.{false}
 use lib.IntN.{pos}
-use lib.Dec.{T, ltb, leb, ltb→lt, lt→ltb, leb→le, le→leb, lit<}
-use lib.Ieee.{Float, Format, prec, round, add, sub, mul, lt, le, ofInt, inFloat, toUnsigned}
+use lib.Dec.{T, leb, leb→le, le→leb, lit<}
+use lib.Ieee.{Format, prec, round, add, sub, mul, le, ofInt, inFloat, toUnsigned}
 use lib.Ieee.Exact.{HasValue}
 use lib.Ieee.Order.{le-of-values}
 use lib.Ieee.Back.{round-whole, unsigned-back}
-use Rattle.float.proofs.Compared.{same-truth, lt→cross, cross→lt, le→value}
+use Rattle.float.proofs.Compared.{same-truth, le→value}
 use Rattle.float.proofs.Sums.{add-over, sub-over, mul-over, sum-plus, sum-less}
 
 pub whole-is : (f : Format) (n : ℕ) → round f false n 1 ≡ ofInt f (pos n)
@@ -33,18 +32,6 @@ pub whole-back : (f : Format) (w n : ℕ) → n ≤ 2 ^ prec f → n < 2 ^ w →
 whole-back f w n h k = unsigned-back f w n (whole-in f n h) k .1
 
 -- ---- the order
-pub whole-lt : (f : Format) (a b : ℕ) → a ≤ 2 ^ prec f → b ≤ 2 ^ prec f → lt (ofInt f (pos a)) (ofInt f (pos b)) ≡ ltb a b
-whole-lt f a b h k =
-    same-truth (lt (ofInt f (pos a)) (ofInt f (pos b))) (ltb a b)
-    (λ t. lt→ltb a b (cancel a b (lt→cross (ofInt f (pos a)) (ofInt f (pos b)) a 1 b 1 (lit< tt) (lit< tt) (whole-value f a h) (whole-value f b k) t)))
-    (λ t. cross→lt (ofInt f (pos a)) (ofInt f (pos b)) a 1 b 1 (lit< tt) (lit< tt) (whole-value f a h) (whole-value f b k) (ones a b (ltb→lt a b t)))
-  where
-    cancel : (a b : ℕ) → a * 1 < b * 1 → a < b
-    cancel a b h = omega arith
-
-    ones : (a b : ℕ) → a < b → a * 1 < b * 1
-    ones a b h = omega arith
-
 pub whole-le : (f : Format) (a b : ℕ) → a ≤ 2 ^ prec f → b ≤ 2 ^ prec f → le (ofInt f (pos a)) (ofInt f (pos b)) ≡ leb a b
 whole-le f a b h k =
     same-truth (le (ofInt f (pos a)) (ofInt f (pos b))) (leb a b)
@@ -56,18 +43,6 @@ whole-le f a b h k =
 
     ones : (a b : ℕ) → a ≤ b → a * 1 ≤ b * 1
     ones a b h = omega arith
-
-pub whole-injective : (f : Format) (a b : ℕ) → a ≤ 2 ^ prec f → b ≤ 2 ^ prec f → ofInt f (pos a) ≡ ofInt f (pos b) → a ≡ b
-whole-injective f a b h k e =
-    equal a b
-    (le→value (ofInt f (pos a)) (ofInt f (pos b)) a 1 b 1 (lit< tt) (lit< tt) (whole-value f a h) (whole-value f b k) (subst (λ (z : Float). T (le (ofInt f (pos a)) z)) e (self a h)))
-    (le→value (ofInt f (pos b)) (ofInt f (pos a)) b 1 a 1 (lit< tt) (lit< tt) (whole-value f b k) (whole-value f a h) (subst (λ (z : Float). T (le z (ofInt f (pos a)))) e (self a h)))
-  where
-    self : (a : ℕ) → a ≤ 2 ^ prec f → T (le (ofInt f (pos a)) (ofInt f (pos a)))
-    self a h = le-of-values (ofInt f (pos a)) (ofInt f (pos a)) a 1 a 1 (lit< tt) (lit< tt) (whole-value f a h) (whole-value f a h) (le-of-eq refl)
-
-    equal : (a b : ℕ) → a * 1 ≤ b * 1 → b * 1 ≤ a * 1 → a ≡ b
-    equal a b h k = omega arith
 
 -- ---- single operations
 pub whole-add : (f : Format) (a b : ℕ) → a ≤ 2 ^ prec f → b ≤ 2 ^ prec f → add f (ofInt f (pos a)) (ofInt f (pos b)) ≡ ofInt f (pos (a + b))

@@ -1,34 +1,30 @@
 -- From tests on floats to bounds on whole numbers. With lo = ceil(x), hi = floor(y), once `lo < 0`, `hi > n` and `hi
 -- - lo < m` have all failed: `interval-is` says for finite x and y that lo and hi are whole numbers (`Upto`), at most
--- n and at least m apart;
--- `ends-ordered` says for any lo and any hi but a NaN (every test fails on a NaN) that `lo as usize` is at most `hi
--- as usize`, and that at most n. `upto-back`, `upto-is`: what such a whole number is. `rank-most`: a rank among k + 1
--- values is at most k. Assumes nothing.
+-- n and at least m apart. `upto-back`: what such a whole number is. Assumes nothing.
 use mathlib.Core.Path.{_≡_, refl, sym, ap, _∙_, subst}
-use mathlib.Core.Logic.{_⊎_, inl, inr}
 use Prim.Native.Nat.{ℕ, suc, _+_, _-_, _*_, _^_, _≤_, _<_, zero-le}
-use native.Mathlib.Nat.{mul-le-mul-left, one-mul, le-trans, le-of-eq, le-of-lt, lt-of-not-le, lt-irrefl, not-le-of-lt, le-of-suc-le-suc, mul-one, zero-mul, mul-pos, div-one}
+use native.Mathlib.Nat.{le-trans, le-of-eq, le-of-lt, lt-of-not-le, lt-irrefl, not-le-of-lt, le-of-suc-le-suc, mul-one, zero-mul, mul-pos, div-one}
 use native.Mathlib.Omega.{arith}
 use mathlib.Core.Bool.{Bool, true, false, not, _&&_, Bool·beq, cond, true≢false}
 use lib.IntN.{pos}
 use lib.Dec.{T, ltb, leb, ltb→lt, leb→le, lit<}
 use lib.Ieee.{Float, nan, inf, fin, binary64, up, down, round, sum, neg, sub, lt, le, ofInt, ofBits, toUnsigned, fits, isNan}
-use lib.Ieee.Fits.{round-fits, ofInt-fits, up-pos}
+use lib.Ieee.Fits.{round-fits, up-pos}
 use lib.Ieee.Exact.{HasValue}
 use lib.Ieee.Scale.{finite}
 use lib.Ieee.Order.{round-mono}
 use lib.Ieee.Back.{round-whole}
 use lib.Ieee.Positive.{positive, positive-of-value, above, above-of-le}
-use Rattle.float.specs.Ops.{plus-zero, of, minus-zero, _⊖_, _⊗_}
-use Rattle.float.specs.Whole.{floorOf, ceilOf, roundOf}
-use Rattle.float.proofs.Exactly.{unique, neg-round}
+use Rattle.float.specs.Ops.{plus-zero, of, _⊖_}
+use Rattle.float.specs.Whole.{floorOf, ceilOf}
+use Rattle.float.proofs.Exactly.{neg-round}
 use Rattle.float.proofs.Compared.{nought, no, unsigned-value}
 use Rattle.float.proofs.Ordered.{unsigned-mono, sub-above}
-use Rattle.float.proofs.Sums.{over-zero, mul-over, sub-over, sum-plus, sum-less}
-use Rattle.float.proofs.Counts.{whole-is, whole-value, whole-back, whole-le}
+use Rattle.float.proofs.Sums.{over-zero, sub-over, sum-plus, sum-less}
+use Rattle.float.proofs.Counts.{whole-is, whole-value, whole-le}
 use Rattle.float.proofs.Signs.{round-signed, signed-number}
-use Rattle.float.proofs.Picks.{wholly, floor-pick, ceil-pick, round-pick, floor-is, ceil-is, round-is}
-use Rattle.float.proofs.Monotone.{neg-le, lt-le, not-lt-le, le-through, round-keeps, round-mono as rounds-mono}
+use Rattle.float.proofs.Picks.{wholly, floor-pick, ceil-pick, floor-is, ceil-is}
+use Rattle.float.proofs.Monotone.{neg-le, lt-le, not-lt-le, le-through}
 
 -- ---- a rounded whole number between 0 and n is that number
 pub record Upto (x : Float) (n : ℕ) : Type 0 where
@@ -101,9 +97,6 @@ module _ (x : Float) (n : ℕ) (N : n < 2 ^ 53) (f : T (finite x)) where
   pub ceil-upto : T (le nought (ceilOf x)) → T (le (ceilOf x) (of n)) → Upto (ceilOf x) n
   ceil-upto = subst (λ (y : Float). T (le nought y) → T (le y (of n)) → Upto y n) (sym (ceil-is x)) (wholly-upto ceil-pick x n N f)
 
-  pub round-upto : T (le nought (roundOf x)) → T (le (roundOf x) (of n)) → Upto (roundOf x) n
-  round-upto = subst (λ (y : Float). T (le nought y) → T (le y (of n)) → Upto y n) (sym (round-is x)) (wholly-upto round-pick x n N f)
-
 -- `as usize` gives the number, and the float is that number or -0.0
 minus-cast : (x : Float) (w a c : ℕ) → HasValue x true a c → toUnsigned w x ≡ 0
 unfolding toUnsigned
@@ -121,20 +114,6 @@ upto-back x n N u = go (u .sign) (u .value) (u .clear)
     go : (s : Bool) → HasValue x s (u .count) 1 → (s ≡ true → u .count ≡ 0) → toUnsigned 64 x ≡ u .count
     go false v c = unsigned-value 64 x (u .count) 1 (lit< tt) v (wide (u .count) n (u .most) N) ∙ div-one (u .count)
     go true v c = minus-cast x 64 (u .count) 1 v ∙ sym (c refl)
-
-minus-fits : (T (fits binary64 minus-zero)) × HasValue minus-zero true 0 1
-unfolding ofBits fits
-minus-fits = (tt, (refl, refl))
-
-pub upto-is : (x : Float) (n : ℕ) → n < 2 ^ 53 → Upto x n → (x ≡ of (toUnsigned 64 x)) ⊎ ((x ≡ minus-zero) × (toUnsigned 64 x ≡ 0))
-upto-is x n N u = go (u .sign) (u .value) (u .clear)
-  where
-    go : (s : Bool) → HasValue x s (u .count) 1 → (s ≡ true → u .count ≡ 0) → (x ≡ of (toUnsigned 64 x)) ⊎ ((x ≡ minus-zero) × (toUnsigned 64 x ≡ 0))
-    go false v c =
-        inl (unique binary64 x (of (u .count)) false (u .count) 1 (lit< tt) (u .held) (ofInt-fits binary64 (pos (u .count))) v (whole-value binary64 (u .count) (le-trans (u .most) (le-of-lt N)))
-        ∙ ap of (sym (upto-back x n N u)))
-    go true v c =
-        inr (unique binary64 x minus-zero true 0 1 (lit< tt) (u .held) (minus-fits .0) (subst (λ (k : ℕ). HasValue x true k 1) (c refl) v) (minus-fits .1), upto-back x n N u ∙ c refl)
 
 -- ---- the ends in order, and the last in range
 positive-whole : (m : ℕ) → 0 < m → m ≤ 2 ^ 53 → T (positive (of m))
@@ -204,26 +183,6 @@ failed lo hi n m N M L p q a b c =
       order = sub-above binary64 hi lo (above-nought (sub binary64 hi lo) (above-of-le (of m) (sub binary64 hi lo) (positive-whole m M L) u));
     }
 
-nan-cast : (x : Float) (b : Bool) → isNan x ≡ b → T b → toUnsigned 64 x ≡ 0
-unfolding isNan toUnsigned
-nan-cast nan b e t = refl
-nan-cast (inf s) b e t = absurd (subst T (sym e) t)
-nan-cast (fin s m e) b g t = absurd (subst T (sym g) t)
-
-pub ends-ordered : (lo hi : Float) (n m : ℕ) → n ≤ 2 ^ 53 → 0 < m → m ≤ 2 ^ 53 → T (not (isNan hi)) → lt lo plus-zero ≡ false → lt (of n) hi ≡ false → lt (hi ⊖ lo) (of m) ≡ false → (toUnsigned 64 lo ≤ toUnsigned 64 hi) × (toUnsigned 64 hi ≤ n)
-unfolding ofBits
-ends-ordered lo hi n m N M L q a b c = (
-  first (isNan lo) refl,
-  le-trans (unsigned-mono 64 hi (of n) (not-lt-le (of n) hi (whole-number n) q (no b))) (le-of-eq (whole-back binary64 64 n N (wide n N))),
-)
-  where
-    wide : (n : ℕ) → n ≤ 2 ^ 53 → n < 2 ^ 64
-    wide n h = omega arith
-
-    first : (t : Bool) → isNan lo ≡ t → toUnsigned 64 lo ≤ toUnsigned 64 hi
-    first true e = le-trans (le-of-eq (nan-cast lo true e tt)) zero-le
-    first false e = unsigned-mono 64 lo hi (lt-le lo hi (failed lo hi n m N M L (no e) q (no a) (no b) (no c) .order))
-
 -- ---- and, of finite numbers, the two whole numbers that they bound
 pub record Interval (lo hi : Float) (n m : ℕ) : Type 0 where
   pub first : Upto lo n
@@ -292,18 +251,3 @@ interval-is x y n m f g N M L a b c =
 
     far : (p q a b m : ℕ) → p ≡ a → q ≡ b → a ≤ b → m ≤ b - a → p + m ≤ q
     far p q a b m e g o h = omega arith
-
--- ---- the share p, at most 1, of k places, rounded: one of the places 0 to k
-pub rank-most : (k : ℕ) (p : Float) (b d : ℕ) → k ≤ 2 ^ 53 → 0 < d → b ≤ d → HasValue p false b d → toUnsigned 64 (roundOf (of k ⊗ p)) ≤ k
-rank-most k p b d K D h v =
-    le-trans
-    (unsigned-mono 64 (roundOf (of k ⊗ p)) (of k)
-    (subst (λ (z : Float). T (le (roundOf (of k ⊗ p)) z)) (round-keeps (of k) false k (whole-value binary64 k K) ∙ whole-is binary64 k)
-    (rounds-mono (of k ⊗ p) (of k)
-    (subst (λ (z : Float). T (le z (of k))) (sym (mul-over binary64 (of k) p false false k 1 b d (lit< tt) D (whole-value binary64 k K) v))
-    (subst (λ (z : Float). T (le (round binary64 false (k * b) (1 * d)) z)) (whole-is binary64 k)
-    (round-mono binary64 (k * b) (1 * d) k 1 (mul-pos (lit< tt) D) (lit< tt) (le-trans (le-of-eq (mul-one (k * b))) (le-trans (mul-le-mul-left k h) (le-of-eq (ap (λ (z : ℕ). k * z) (sym (one-mul d))))))))))))
-    (le-of-eq (whole-back binary64 64 k K (wide k K)))
-  where
-    wide : (n : ℕ) → n ≤ 2 ^ 53 → n < 2 ^ 64
-    wide n h = omega arith

@@ -10,28 +10,23 @@
 --             `over-zero`, `not-under`
 -- Ordered     the cast keeps the order, for all floats: `unsigned-mono`; a difference above zero has its operands in
 --             order: `sub-above`; `quotient-mono`
--- Counts      whole numbers as floats: `whole-value`, `whole-back`, `whole-injective`, `whole-lt`, `whole-le`,
---             `whole-add`, `whole-sub`, `whole-mul`
--- Signs       the sign of a result, and that it is no NaN: `round-signed`, `add-signed`, `square-signed`,
---             `mul-signed`, `div-signed`, `sqrt-signed`, `abs-signed`
--- Monotone    `neg-le`, `lt-le`, `not-lt-le`, `le-through`, `signed-le`; `floor-mono`, `ceil-mono`, `round-mono`;
---             `floor-keeps`, `ceil-keeps`, `round-keeps`
--- Within      how large a result can be, so that it is finite: `add-within`, `sub-within`, `mul-within`,
---             `div-within`, `floor-within`, `ceil-within`, `nearest-within`, `sqrt-within`, `narrow-within`,
---             `max-within`, `whole-within`, `finite-within`; `le-within`, `within-le`
+-- Counts      whole numbers as floats: `whole-value`, `whole-back`, `whole-le`, `whole-add`, `whole-sub`, `whole-mul`
+-- Signs       the sign of a result, and that it is no NaN: `round-signed`, `add-signed`, `square-signed`
+-- Monotone    `neg-le`, `lt-le`, `not-lt-le`, `le-through`, `signed-le`; `ceil-mono`, `round-mono`
+-- Within      how large a result can be, so that it is finite: `add-within`, `sub-within`, `mul-within`; `le-within`,
+--             `within-le`; `AtLeast`
 -- Bounds      the same with a factor, a * 2 ^ k, for sums of many terms and their means: `Bounded`, `bounded-add`,
 --             `bounded-mul`, `bounded-div`, `bounded-mean`, `bounded-round`, `bounded-single`
 -- Amounts     finite, with the sign plus: `Amount`; `amount-root`, `amount-half`, `amount-squares`, `amount-number`,
 --             `amount-above`; where a threshold is crossed: `share-bounded`
--- Intervals   from tests on floats to bounds on whole numbers: `interval-is`, `ends-ordered`, `floor-upto`,
---             `ceil-upto`, `round-upto`, `upto-back`, `upto-is`, `rank-most`
+-- Intervals   from tests on floats to bounds on whole numbers: `interval-is`, `floor-upto`, `ceil-upto`, `upto-back`
 -- Picks, Cuts, Wholes     floor, ceil, round by the whole number next to x
--- Remainders  `rem-small`, and what `rem_one` does in place of `%`; `rem-one-within`
+-- Remainders  `rem-small`, and what `rem_one` does in place of `%`
 -- Patterns, Narrowing     bit patterns, and the f32 nearest to an f64
 -- Squares, Roots, Value, Meaning     the square root; `sqrt-nearest`: of each value above zero, no other value of the
 --             format is as near to it; `nearest-unique`; `in-units`: a finite value is a number of units
 -- Ties, Rounding     what `round` means: no other value of the format is as near, a tie goes to the even one, and
---             from which size on it is infinite: `round-rounded`, `rounded-near`, `rounded-unique`, `last-bit`; and
+--             from which size on it is infinite: `round-rounded`, `rounded-unique`, `last-bit`; and
 --             so of all that is defined by it: `narrow-rounded`, `of-rounded`, `fraction-rounded`, `add-rounded`,
 --             `sub-rounded`, `mul-rounded`, `div-rounded`
 -- Unrounded   floor, ceil, round lose nothing to the format: `floor-exact`, `ceil-exact`, `nearest-exact`

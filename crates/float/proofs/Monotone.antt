@@ -1,26 +1,23 @@
 -- Order. `le-fin`, `fin-le`: what `<=` of two finite values says of their signs and sizes. `neg-le`: a minus turns it
 -- round. `lt-le`, `not-lt-le`: between the tests. `le-through`: by way of a third. `minus-le-plus`, `signed-le`: by
--- sign.
--- `floor-mono`, `ceil-mono`, `round-mono`: x at most y has floor, ceil and round of x at most those of y;
--- `floor-keeps`, `ceil-keeps`, `round-keeps`: a whole number stays. With infinities and minus signs among the values.
--- Assumes nothing.
+-- sign. `ceil-mono`, `round-mono`: x at most y has ceil and round of x at most those of y. With infinities and minus
+-- signs among the values. Assumes nothing.
 use mathlib.Core.Path.{_≡_, refl, sym, ap, _∙_, subst}
 use mathlib.Core.Logic.{inl, inr}
 use Prim.Native.Nat.{ℕ, _+_, _*_, _≤_, _<_}
-use native.Mathlib.Nat.{le-of-eq, le-of-lt, eq-zero-or-pos, eq-or-lt-of-le, zero-mul, mul-one, mul-le-mul-right, eq-of-mul-eq-mul-right}
+use native.Mathlib.Nat.{le-of-eq, le-of-lt, eq-zero-or-pos, eq-or-lt-of-le, zero-mul, mul-le-mul-right, eq-of-mul-eq-mul-right}
 use native.Mathlib.Omega.{arith}
 use mathlib.Core.Bool.{Bool, true, false, not, _&&_, _||_, true≢false}
 use lib.IntN.{ℤ, pos}
 use lib.Dec.{T, ltb, eqb, ltb→lt, lt→ltb, nltb→le, eqb→eq, lit<}
 use lib.Ieee.{Float, nan, inf, fin, binary64, up, down, below, level, round, neg, lt, eq, le, isNan}
 use lib.Ieee.Fits.{down-pos, and-i, and-l, and-r, eq→eqb}
-use lib.Ieee.Exact.{HasValue}
 use lib.Ieee.Order.{round-mono as rounds-up}
 use lib.Ieee.Positive.{through}
-use Rattle.float.specs.Whole.{floorOf, ceilOf, roundOf}
+use Rattle.float.specs.Whole.{ceilOf, roundOf}
 use Rattle.float.proofs.Exactly.{neg-round}
 use Rattle.float.proofs.Compared.{nought, or-split, lt-or-eq}
-use Rattle.float.proofs.Picks.{Steps, wholly, floor-pick, ceil-pick, round-pick, floor-steps, ceil-steps, round-steps, floor-is, ceil-is, round-is}
+use Rattle.float.proofs.Picks.{Steps, wholly, ceil-pick, round-pick, ceil-steps, round-steps, ceil-is, round-is}
 use Rattle.float.proofs.Signs.{Signed, round-signed}
 
 -- ---- ± a at most ± b
@@ -274,28 +271,8 @@ module _ (pick : Bool → ℕ → ℕ → ℕ) (steps : (s : Bool) → Steps (pi
   wholly-mono (fin s m e) (inf false) h = largest s (round binary64 s (pick s (m * up e) (down e)) 1) (round-signed binary64 s (pick s (m * up e) (down e)) 1)
   wholly-mono (fin s m e) (fin t n d) h = round-le s t (pick s (m * up e) (down e)) (pick t (n * up d) (down d)) (picked s t m e n d (le-fin s m e t n d h))
 
-  wholly-keeps : (x : Float) (s : Bool) (n : ℕ) → HasValue x s n 1 → wholly pick x ≡ round binary64 s n 1
-  unfolding wholly
-  wholly-keeps nan s n v = absurd v
-  wholly-keeps (inf t) s n v = absurd v
-  wholly-keeps (fin t m e) s n v =
-      ap (λ (z : ℕ). round binary64 t (pick t z (down e)) 1) (sym (mul-one (m * up e)) ∙ v .1) ∙ ap (λ (z : ℕ). round binary64 t z 1) (steps t .keeps n (down e) (down-pos e)) ∙ ap (λ (z : Bool). round binary64 z n 1) (v .0)
-
-pub floor-mono : (x y : Float) → T (le x y) → T (le (floorOf x) (floorOf y))
-floor-mono x y h = rw (floor-is x, floor-is y) (wholly-mono floor-pick floor-steps x y h)
-
 pub ceil-mono : (x y : Float) → T (le x y) → T (le (ceilOf x) (ceilOf y))
 ceil-mono x y h = rw (ceil-is x, ceil-is y) (wholly-mono ceil-pick ceil-steps x y h)
 
 pub round-mono : (x y : Float) → T (le x y) → T (le (roundOf x) (roundOf y))
 round-mono x y h = rw (round-is x, round-is y) (wholly-mono round-pick round-steps x y h)
-
--- ---- a whole number stays
-pub floor-keeps : (x : Float) (s : Bool) (n : ℕ) → HasValue x s n 1 → floorOf x ≡ round binary64 s n 1
-floor-keeps x s n v = floor-is x ∙ wholly-keeps floor-pick floor-steps x s n v
-
-pub ceil-keeps : (x : Float) (s : Bool) (n : ℕ) → HasValue x s n 1 → ceilOf x ≡ round binary64 s n 1
-ceil-keeps x s n v = ceil-is x ∙ wholly-keeps ceil-pick ceil-steps x s n v
-
-pub round-keeps : (x : Float) (s : Bool) (n : ℕ) → HasValue x s n 1 → roundOf x ≡ round binary64 s n 1
-round-keeps x s n v = round-is x ∙ wholly-keeps round-pick round-steps x s n v

@@ -2,7 +2,7 @@
 -- (`rem-small`); what `rem_one` gets from the whole number next to x (`above-is`, `below-is`). Assumes nothing.
 use mathlib.Core.Path.{_≡_, refl, sym, ap, _∙_, subst}
 use Prim.Native.Nat.{ℕ, zero, suc, _+_, _-_, _*_, _/_, _%_, _^_, _≤_, _<_, zero-le}
-use native.Mathlib.Nat.{le-of-eq, le-trans, le-of-lt, lt-of-le-of-lt, lt-irrefl, zero-lt-suc, zero-mul, mul-one, one-mul, zero-add, mul-pos, mul-comm, mul-assoc, mod-eq-of-lt, mod-lt}
+use native.Mathlib.Nat.{le-of-lt, lt-of-le-of-lt, lt-irrefl, zero-lt-suc, zero-mul, mul-one, one-mul, zero-add, mul-pos, mul-comm, mul-assoc, mod-eq-of-lt, mod-lt}
 use native.Mathlib.Omega.{arith}
 use mathlib.Core.Bool.{Bool, true, false, not, cond}
 use lib.IntN.{ℤ, pos}
@@ -11,13 +11,12 @@ use lib.Ieee.{Float, nan, inf, fin, Format, binary64, up, down, round, sum, add,
 use lib.Ieee.Bits.{cond-no}
 use lib.Ieee.Fits.{up-pos, down-pos}
 use lib.Ieee.Exact.{HasValue}
-use lib.Ieee.Scale.{round-same, finite}
+use lib.Ieee.Scale.{round-same}
 use Rattle.float.specs.Compare.{absOf}
 use Rattle.float.specs.Remainder.{remEuclidOf}
 use Rattle.float.proofs.Exactly.{fits-parts, zero-exp, few-exact, rest-few, round-self, neg-round}
 use Rattle.float.proofs.Compared.{nought, lt→cross, under-power}
 use Rattle.float.proofs.Sums.{cond-nil, add-over, sub-over, sum-less, sum-more, under-zero, not-under, over-zero, not-over-minus, none-under}
-use Rattle.float.proofs.Within.{Within, round-within}
 use Rattle.float.proofs.Cuts.{limit, gap, Bounce, over, under, bounce-is}
 
 -- ---- |x|
@@ -256,33 +255,3 @@ below-is (fin true m e) t h k =
       more = b .0;
       same = b .1;
     }
-
--- ---- rem_euclid by 1.0 lies between -0.0 and 1.0, the 1.0 included
-rest-within : (s : Bool) (r c : ℕ) → 0 < c → r ≤ c → Within 0 (round binary64 s r c)
-rest-within s r c C h = round-within binary64 s r c 0 C zero-le (le-trans h (le-of-eq (sym (one-mul c))))
-
-minus-within : (m : ℕ) (e : ℤ) (r : ℕ) → r < down e → r < 2 ^ 53 → down e ≤ 2 ^ 1074 → rem binary64 (fin true m e) unit ≡ round binary64 true r (down e) → Within 0 (remEuclidOf (fin true m e) unit)
-minus-within m e zero R few d is =
-    let c = down e in
-    let y = round binary64 true 0 c in
-    subst (Within 0) (sym (euclid-one (fin true m e) y is ∙ stays y (not-T (lt y nought) (none-under y c (down-pos e) (few-exact binary64 true 0 e d few))))) (rest-within true 0 c (down-pos e) zero-le)
-minus-within m e (suc r) R few d is =
-    let c = down e in
-    let y = round binary64 true (suc r) c in
-    subst (Within 0) (sym (euclid-one (fin true m e) y is ∙ moves y (suc r) c (zero-lt-suc r) R (few-exact binary64 true (suc r) e d few))) (rest-within false (c - suc r) c (down-pos e) (less c (suc r)))
-  where
-    less : (a b : ℕ) → a - b ≤ a
-    less a b = omega arith
-
-pub rem-one-within : (x : Float) → T (fits binary64 x) → T (finite x) → Within 0 (remEuclidOf x unit)
-rem-one-within nan t h = absurd h
-rem-one-within (inf s) t h = absurd h
-rem-one-within (fin false m e) t h =
-    let w = fits-parts binary64 false m e t in
-    let r = m * up e % down e in
-    let v = few-exact binary64 false r e (w .1) (rest-few binary64 m e (w .0)) in
-    subst (Within 0) (sym (euclid-one (fin false m e) (round binary64 false r (down e)) (rem-one-at binary64 false m e) ∙ stays (round binary64 false r (down e)) (not-under (round binary64 false r (down e)) r (down e) v)))
-    (rest-within false r (down e) (down-pos e) (le-of-lt (mod-lt (m * up e) (down-pos e))))
-rem-one-within (fin true m e) t h =
-    let w = fits-parts binary64 true m e t in
-    minus-within m e (m * up e % down e) (mod-lt (m * up e) (down-pos e)) (rest-few binary64 m e (w .0)) (w .1) (rem-one-at binary64 true m e)

@@ -16,13 +16,13 @@ use lib.Ieee.Bits.{cond-no}
 use lib.Ieee.Fits.{round-is, round-fits, down-pos}
 use lib.Ieee.Exact.{HasValue, units-val}
 use lib.Ieee.Order.{drop, kept}
-use lib.Ieee.Scale.{grid, overflow, finite, round-same}
+use lib.Ieee.Scale.{grid, overflow, round-same}
 use Rattle.float.specs.Ops.{_⊕_, _⊖_, _⊗_, _⊘_, of, fraction}
 use Rattle.float.specs.Single.{narrowOf}
 use Rattle.float.proofs.Exactly.{unique}
 use Rattle.float.proofs.Sums.{add-over, sub-over, mul-over, div-over}
 use Rattle.float.proofs.Meaning.{Digits, digits}
-use Rattle.float.specs.Nearest.{apart, lastDigit, Closer, Near, Overflows, Rounded}
+use Rattle.float.specs.Nearest.{apart, lastDigit, Closer, Overflows, Rounded}
 use Rattle.float.proofs.Ties.{cut-off, Best, best, largest, highest, next-is, largest-lt, largest-digits, next-digits, largest-odd, largest-most}
 
 -- ---- the infinity
@@ -145,10 +145,6 @@ round-rounded f s a c C = go (decLe (overflow f) (grid f a c))
           );
           near = λ no-over. record { r = r; value = v; nearest = λ y t b G u ne. nearer f s t n c r b C (best f a c C) (digits f y t b G u) ne };
         }
-
--- a finite result is near
-pub rounded-near : (f : Format) (s : Bool) (a c : ℕ) (x : Float) → Rounded f s a c x → T (finite x) → Near f s a c x
-rounded-near f s a c x w h = w .near (λ o. subst (λ (y : Float). T (finite y)) (w .infinite .1 o) h)
 
 -- only one value is the fraction rounded
 pub rounded-unique : (f : Format) (s : Bool) (a c : ℕ) (x y : Float) → Rounded f s a c x → Rounded f s a c y → x ≡ y

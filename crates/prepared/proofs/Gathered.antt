@@ -20,7 +20,6 @@ use Rattle.rank.specs.Select.{percentileOf}
 use Rattle.classes.specs.declared.class.BlockClass.{BlockClass}
 use Rattle.classes.specs.Class.{codeOf, isClass}
 use Rattle.classes.proofs.Codes.{code-tells}
-use Rattle.prepared.specs.Powers.{blockPower, powersOf}
 use Rattle.prepared.proofs.Parts.{zAt-same, zAt-below, take-same, take-at}
 use Rattle.prepared.specs.Inner.{Prepared, hasCode, classIn, powerIn, powersIn}
 
@@ -88,17 +87,10 @@ powers-same v w means codes blocks c out e h g =
     (λ b l. ap (λ x. eq x (codeOf c)) (take-at v w out e (codes + b) (omega arith)))
     (λ b l t. ap cNormSqr (zAt-below v w out e (means + b) (omega arith)))
 
--- the classes and the powers in a prepared slice are those of the rows that it was prepared from
+-- the classes in a prepared slice are those that it was prepared from
 pub class-prepared : (w : List Float) (z : ℕ → Complex) (class : ℕ → BlockClass) (blocks : ℕ) (c : BlockClass) (b : ℕ)
     → Prepared w z class blocks → b < blocks → classIn w (2 * blocks) c b ≡ isClass c (class b)
 class-prepared w z class blocks c b p h = ap (λ x. eq x (codeOf c)) (p .class b h) ∙ code-tells c (class b)
-
-pub powers-prepared : (w : List Float) (z : ℕ → Complex) (class : ℕ → BlockClass) (blocks : ℕ) (c : BlockClass)
-    → Prepared w z class blocks → picked (classIn w (2 * blocks) c) (powerIn w 0) blocks ≡ powersOf c class z blocks
-powers-prepared w z class blocks c p =
-    picked-cong (classIn w (2 * blocks) c) (λ b. isClass c (class b)) (powerIn w 0) (blockPower z) blocks
-    (λ b h. class-prepared w z class blocks c b p h)
-    (λ b h t. let here : 0 + b ≡ b = omega arith in ap cNormSqr (rw here (p .mean b h)))
 
 -- a slice that was prepared stays so while its means and classes stay
 pub prepared-kept : (w v : List Float) (z : ℕ → Complex) (class : ℕ → BlockClass) (blocks : ℕ)

@@ -4,7 +4,7 @@
 --           lent and is back: `put-at`
 -- Prepared  the slice made ready: `counted`, `prepared`, `made`
 -- Gathered  the loop that gathers: `gather-yes`, `gather-no`, `gather-done`; what the slice holds then: `gathered`,
---           `gathered-below`, `level-is`, `powers-same`; a prepared slice: `class-prepared`, `powers-prepared`,
+--           `gathered-below`, `level-is`, `powers-same`; a prepared slice: `class-prepared`,
 --           `prepared-kept`
 -- Less      fits taken off the means, by samples, by blocks, and one after the other: `lessFrom-turn`, `turned-turn`,
 --           `fits-turn`, `lessened`
