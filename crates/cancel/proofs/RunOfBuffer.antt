@@ -9,9 +9,8 @@ use mathlib.Core.Logic.{_≢_, _⊎_, ⊎-elim}
 use mathlib.Core.Bool.{Bool, true, false, not}
 use mathlib.Core.List.{List, [], map, List·Memᴰ}
 use lib.ListN.{length, length-map, getD}
-use lib.Ieee.{Float, nan, le}
-use Rattle.float.specs.Ops.{_⊘_, plus-zero}
-use Rattle.float.specs.Size.{finiteF}
+use lib.Ieee.{Float, nan}
+use Rattle.float.specs.Ops.{_⊘_}
 use Rattle.lists.specs.Those.{those, picked}
 use Rattle.complex.specs.Rows.{zAt}
 use Rattle.row.specs.Samples.{Singles, Iq}
@@ -19,7 +18,6 @@ use Rattle.row.specs.Window.{Rate, stepOf, windowOf, samples, blocks}
 use Rattle.row.specs.Blocks.{blockMean}
 use Rattle.row.specs.Envelope.{rowOf, rowLength}
 use Rattle.row.proofs.Means.{blocks-short}
-use Rattle.rank.specs.Order.{minusZero}
 use Rattle.rank.proofs.Sorted.{every-at}
 use Rattle.float.proofs.Amounts.{Amount}
 use Rattle.elements.specs.Keying.{LongKeyDowns, RowCounts, noKeyDowns}
@@ -50,16 +48,12 @@ use Rattle.measure.specs.Residual.{residualCheckOf}
 use Rattle.measure.specs.Evidence.{isIn, evidenceCheckOf}
 use Rattle.measure.specs.Hypothesis.{hypothesisOf}
 use Rattle.measure.specs.Agree.{AgreeIn}
-use Rattle.measure.proofs.Bounds.{Gains, gains-all, amount-plain, left-powers}
+use Rattle.measure.proofs.Bounds.{Gains, gains-all, Plain, amount-plain, left-powers}
 use Rattle.measure.proofs.Levels.{powers-amounts, side-amounts}
 use Rattle.measure.proofs.Reach.{residual-reach}
 use Rattle.measure.proofs.ReachEvidence.{evidence-check-reach}
 use Rattle.engine.specs.declared.run.RunFigures.{RunFigures}
 use Rattle.engine.specs.Run.{takes, runClass, runTaken, runFigures, runBuffer}
-
--- A number of a list on which `total_cmp` order is the order of the values: finite, not negative, and no −0.0.
-abbrev pub Plain : Float → Type 0
-Plain x = (finiteF x ≡ true) × (le plus-zero x ≡ true) × (minusZero x ≡ false)
 
 module _ (buf : List Float) (fs hint : Float) where
   abbrev ran : RunFigures

@@ -48,7 +48,7 @@ use Rattle.cancel.specs.declared.running.RunAnswer.the-variants.{Done}
 use Rattle.cancel.specs.Running.{runOutcome, runRule}
 use Rattle.strong.proofs.EstimateAccepted.{estimate-accepted}
 use Rattle.cancel.proofs.RunAccepted.{run-done}
-use Rattle.cancel.proofs.RunOfBuffer.{Plain}
+use Rattle.measure.proofs.Bounds.{Plain}
 use Rattle.cancel.proofs.RunOfBuffer as ran
 
 module _ (buf : List Float) (fs hint : Float) (elements fits work : List Float) (f : RunFigures) (buffer-after elements-after fits-after work-after : List Float)
@@ -66,8 +66,8 @@ module _ (buf : List Float) (fs hint : Float) (elements fits work : List Float) 
       powersOf c (classOf fs (samples buf) fits-out elements-out) (residualMean fs (blocks buf (windowOf fs)) fits-out (blockMean buf (f .estimate .«carrier_hz» ⊘ fs) (windowOf fs)))
       (blocks buf (windowOf fs))
 
-  -- those that the evidence ranks: of the gap blocks to both sides of the carrier, pooled, for the reference, and of the
-  -- interior blocks at the carrier, for its floor
+  -- those that the evidence ranks: of the gap blocks to both sides of the carrier, pooled, for the reference, and of
+  -- the interior blocks at the carrier, for its floor
   abbrev side : List Float
   side = sideOf (meanAt buf fs) (f .estimate .«carrier_hz») (isIn Gap (classOf fs (samples buf) fits-out elements-out)) (blocks buf (windowOf fs))
 

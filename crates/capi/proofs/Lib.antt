@@ -7,8 +7,8 @@
 -- CallsForC   every call that writes figures: what 01 accepts is never refused, `c-accepts`; a refusal's number is that
 --             of a question asked, `c-number`
 -- RunForC     a run that returns 0 to C is an accepted run: `run-for-c`
--- Counts      counts among the figures are below 2^53 and exact: `count-exact`; of each call: `find-counts`, `fit-counts`,
---             `estimate-counts`, `row-counts`, `classes-counts`, `residual-counts`, `evidence-counts`
+-- Counts      counts among the figures are below 2^53 and exact: `count-exact`; of each call: `find-counts`,
+--             `fit-counts`, `estimate-counts`, `row-counts`, `classes-counts`, `residual-counts`, `evidence-counts`
 -- RunCounts   of a run: `run-counts`, `c-counts`; the balances of what C reads: `c-key-downs-balance`,
 --             `c-listed-balance`, `c-blocks-balance`
 pub mod Ways

@@ -1,5 +1,5 @@
--- Elements in a list: stored from a number on and read back. `element-kind` gives the laws on records of any kind (lists
--- Records) for elements; `elements-handed` says what a list of elements hands out. Assumes nothing.
+-- Elements in a list: stored from a number on and read back. `element-kind` gives the laws on records of any kind
+-- (lists Records) for elements; `elements-handed` says what a list of elements hands out. Assumes nothing.
 use Prim.Native.Nat.{ℕ, _+_, _*_, _≤_, _<_}
 use native.Mathlib.Omega.{arith}
 use mathlib.Core.Path.{_≡_, ap, _∙_}

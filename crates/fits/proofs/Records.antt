@@ -1,5 +1,5 @@
--- Fits in a list: stored from a number on and read back. `fit-kind` gives the laws on records of any kind (lists Records)
--- for fits; `fits-handed` says what a list of fits hands out.
+-- Fits in a list: stored from a number on and read back. `fit-kind` gives the laws on records of any kind (lists
+-- Records) for fits; `fits-handed` says what a list of fits hands out.
 use Prim.Native.Nat.{ℕ, _+_, _*_, _≤_, _<_}
 use native.Mathlib.Omega.{arith}
 use mathlib.Core.Path.{_≡_, ap, _∙_}

@@ -1,7 +1,7 @@
 -- Whole numbers as floats, up to 2 ^ prec, where a format has no gap. `whole-value` (the float has that value),
 -- `whole-back` (`as usize` gives it back), `whole-le` (the test is the numbers' own), `whole-add`, `whole-sub`,
--- `whole-mul` (single operations on them are rounded once: exact as long as the result is such a number too). `of n` of `specs/Ops.antt` is `ofInt binary64 (pos n)`. Over any format but for the casts.
--- Assumes nothing.
+-- `whole-mul` (single operations on them are rounded once: exact as long as the result is such a number too). `of n` of
+-- `specs/Ops.antt` is `ofInt binary64 (pos n)`. Over any format but for the casts. Assumes nothing.
 use mathlib.Core.Path.{_≡_, refl, _∙_}
 use Prim.Native.Nat.{ℕ, _+_, _-_, _*_, _^_, _≤_, _<_}
 use native.Mathlib.Nat.{le-trans}

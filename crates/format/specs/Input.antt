@@ -9,8 +9,8 @@ use Rattle.format.specs.declared.input.Read.{Read}
 use Rattle.format.specs.declared.input.Reading.{Reading}
 use Rattle.format.specs.declared.input.Reading.the-variants.{Failed, Ended, Full, More}
 
--- A read as it is made: it asks for something, behind the bytes that are there and within the room; its answer is −1, or
--- how many bytes came, at most as many as were asked for.
+-- A read as it is made: it asks for something, behind the bytes that are there and within the room; its answer is −1,
+-- or how many bytes came, at most as many as were asked for.
 pub record Made (room : ℕ) (read : Read) : Type 0 where
   pub something : 1 ≤ read .asked
   pub within : read .there + read .asked ≤ room

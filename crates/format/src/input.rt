@@ -102,8 +102,8 @@ fn count(last: Read, room: usize) -> usize
     }
 }
 
-// Reads to the end of the input, or until `bytes` is full, at most `piece` bytes at a time; answers how many came. A read
-// that fails counts as too many, so that no part of a recording is reported as if it were whole.
+// Reads to the end of the input, or until `bytes` is full, at most `piece` bytes at a time; answers how many came. A
+// read that fails counts as too many, so that no part of a recording is reported as if it were whole.
 pub fn read_recording(fd: i32, bytes: &mut [u8; INPUT], piece: usize) -> usize
     ensures { λ r. ⌜ Counts r (now (bytes .exit)) ⌝ }
     ensures { λ r. ⌜ length (now (bytes .exit)) ≡ INPUT ⌝ }

@@ -1,6 +1,6 @@
 // Hot gap blocks, and pairs of consecutive gap blocks, against a reference. Rust: lines 525 to 527 and 548 to 569 of
-// cancel.rs in second_carrier_evidence. The work slice holds the blocks' means and the numbers of their classes, each in
-// its section.
+// cancel.rs in second_carrier_evidence. The work slice holds the blocks' means and the numbers of their classes, each
+// in its section.
 use classes::BlockClass;
 use classes::is_class;
 use complex::Complex;

@@ -5,18 +5,15 @@
 use Prim.Native.Nat.{ℕ, _^_, _≤_, _<_}
 use native.Mathlib.Omega.{arith}
 use mathlib.Core.Path.{_≡_}
-use mathlib.Core.Bool.{true, false}
 use mathlib.Core.List.{List}
 use lib.ListN.{length, getD}
-use lib.Ieee.{Float, nan, le}
-use Rattle.float.specs.Ops.{_⊘_, plus-zero}
-use Rattle.float.specs.Size.{finiteF}
+use lib.Ieee.{Float, nan}
+use Rattle.float.specs.Ops.{_⊘_}
 use Rattle.float.proofs.Amounts.{Amount}
 use Rattle.lists.proofs.Firsts.{length-firsts}
 use Rattle.row.specs.Samples.{Singles}
 use Rattle.row.specs.Window.{windowOf, samples, blocks}
 use Rattle.row.specs.Blocks.{blockMean}
-use Rattle.rank.specs.Order.{minusZero}
 use Rattle.rank.proofs.Sorted.{every-at}
 use Rattle.elements.specs.Element.{elementsIn}
 use Rattle.fits.specs.List.{fitAt, fitsIn}
@@ -29,7 +26,7 @@ use Rattle.gaps.specs.Reference.{meanAt, sideOf}
 use Rattle.measure.specs.declared.residual.ResidualCheck.{ResidualCheck}
 use Rattle.measure.specs.declared.evidence.SecondCarrierEvidence.{SecondCarrierEvidence}
 use Rattle.measure.specs.Evidence.{isIn}
-use Rattle.measure.proofs.Bounds.{gain-sized, gains-of, amount-plain, left-powers}
+use Rattle.measure.proofs.Bounds.{gain-sized, gains-of, Plain, amount-plain, left-powers}
 use Rattle.measure.proofs.Levels.{powers-amounts, side-amounts}
 use Rattle.questions.proofs.Calls.{accepted-by}
 use Rattle.given.specs.declared.residual.ResidualAnswer.the-variants as residual
@@ -37,10 +34,6 @@ use Rattle.given.specs.declared.evidence.EvidenceAnswer.the-variants as 
 use Rattle.given.specs.Residual.{residualRule, residualOutcome}
 use Rattle.given.specs.Evidence.{evidenceRule, evidenceOutcome}
 use Rattle.given.proofs.MeasuresAccepted.{MeasureAccepted, measure-accepted}
-
--- finite, from 0, no −0.0
-abbrev pub Plain : Float → Type 0
-Plain x = (finiteF x ≡ true) × (le plus-zero x ≡ true) × (minusZero x ≡ false)
 
 module _ (iq : List Float) (fs hz step : Float) (elements : List Float) (element-count : ℕ) (fits : List Float) (fit-count : ℕ) (work work-after : List Float)
     (singles : Singles iq) where

@@ -40,10 +40,6 @@ module _ {A : Type 0} where
   unfolding keep
   keep-no l at p f n cur e t = rw (add-one, t) e
 
-  pub keep-done : (l : List A) (at : ℕ) (p : ℕ → Bool) (f : ℕ → A) (n k : ℕ) (cur : List A)
-      → cur ≡ keep l at p f k → k ≤ n → n ≤ k → cur ≡ keep l at p f n
-  keep-done l at p f n k cur e h g = let all : k ≡ n = omega arith in rw all at e
-
   -- what lies below is as it was
   pub getD-keep-below : (l : List A) (at : ℕ) (p : ℕ → Bool) (f : ℕ → A) (n k : ℕ) (d : A) → k < at → getD (keep l at p f n) k d ≡ getD l k d
   unfolding keep

@@ -7,8 +7,7 @@
 -- Every     `every-at`, `every-not`, `every-cong`; the halves of an && that is true: `and-left`, `and-right`
 -- Count     `count-cong`, `count-le`, `count-most`, `count-apart`
 -- Those     `those-append`, `those-shorter`; `picked-cong`, `length-picked`
--- Kept      the loop that stores what passes: `keep-none`, `keep-yes`, `keep-no`, `keep-done`; `length-keep`,
---           `keep-part`,
+-- Kept      the loop that stores what passes: `keep-none`, `keep-yes`, `keep-no`; `length-keep`, `keep-part`,
 --           `getD-keep`, `getD-keep-below`
 -- Members   `member-at`, `map-same`; which ones pass a test: `those-are`, `those-others`, `those-same`
 -- Sums      loops that add: `fSum-none`, `fSum-turn`, `fSum-done`, `fSum-cong`; `over-more`

@@ -108,8 +108,12 @@ module _ (fs : Float) (len blocks : ℕ) (some : 1 ≤ len) (short : len ≤ 512
 
 -- ---- the powers
 
--- an amount is finite, not negative, and no −0.0
-pub amount-plain : (x : Float) → Amount x → (finiteF x ≡ true) × (le plus-zero x ≡ true) × (minusZero x ≡ false)
+-- finite, from 0, no −0.0
+abbrev pub Plain : Float → Type 0
+Plain x = (finiteF x ≡ true) × (le plus-zero x ≡ true) × (minusZero x ≡ false)
+
+-- an amount is so
+pub amount-plain : (x : Float) → Amount x → Plain x
 unfolding finiteF minusZero
 amount-plain nan a = absurd (a .plus)
 amount-plain (inf s) a = absurd (a .plus)

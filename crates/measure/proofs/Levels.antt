@@ -1,5 +1,5 @@
 -- The powers that the evidence ranks are amounts: finite, not negative and no −0.0, at any carrier (`powers-amounts`,
--- `side-amounts`; place by place `side-powers`, `interior-powers`). Of amounts the order of a percentile, `total_cmp`'s, is the order of the values (`order-is`). The
+-- `side-amounts`). Of amounts the order of a percentile, `total_cmp`'s, is the order of the values (`order-is`). The
 -- reference is at least the smallest normal f64, whatever the lists hold (`reference-above`). Assumes nothing.
 use Prim.Native.Nat.{ℕ, zero, suc, _≤_, _<_}
 use native.Mathlib.Omega.{arith}
@@ -7,7 +7,6 @@ use mathlib.Core.Path.{_≡_, refl}
 use mathlib.Core.Bool.{Bool, true, false, not, _&&_, _||_, cond}
 use mathlib.Core.List.{List, [], _∷_, _++_}
 use lib.Dec.{T, lit≤}
-use lib.ListN.{length, getD}
 use lib.Ieee.{Float, nan, inf, fin, lt, le, eq, isNan, neg, round}
 use Rattle.float.specs.Ops.{_⊕_, _⊘_, fraction}
 use Rattle.float.specs.Compare.{maxOf}
@@ -17,17 +16,14 @@ use Rattle.float.proofs.Amounts.{Amount, amount-squares, amount-number}
 use Rattle.lists.specs.Those.{picked}
 use Rattle.constants.specs.Constants.{REFERENCE_OFFSET_HZ, MIN_POSITIVE}
 use Rattle.rank.specs.Order.{minusZero, precedes}
-use Rattle.rank.proofs.Sorted.{Every, every-at}
+use Rattle.rank.proofs.Sorted.{Every}
 use Rattle.row.specs.Samples.{Singles, Iq}
 use Rattle.row.specs.Window.{stepOf, windowOf}
 use Rattle.row.specs.Window as window
 use Rattle.row.proofs.Steps.{step-low}
 use Rattle.row.proofs.Bounds.{block-bounded}
-use Rattle.classes.specs.declared.class.BlockClass.{BlockClass}
-use Rattle.classes.specs.declared.class.BlockClass.the-variants.{Gap, Interior}
 use Rattle.prepared.specs.Powers.{blockPower}
 use Rattle.gaps.specs.Reference.{sideOf, referenceFrom, meanAt}
-use Rattle.measure.specs.Evidence.{isIn}
 
 -- ---- lists of values that each are something
 
@@ -62,21 +58,6 @@ module _ (iq : List Float) (fs : Float) (s : Singles iq) (q : Iq iq) where
     side-amounts carrier =
         every-append Amount (picked p (blockPower (meanAt iq fs (carrier ⊕ neg REFERENCE_OFFSET_HZ))) blocks) _ (powers-amounts (carrier ⊕ neg REFERENCE_OFFSET_HZ))
         (powers-amounts (carrier ⊕ REFERENCE_OFFSET_HZ))
-
-  -- the two lists that the evidence ranks, place by place: the powers to both sides of the carrier, and those of the
-  -- interior blocks at it
-  module _ (carrier : Float) (class : ℕ → BlockClass) where
-    abbrev pub sides : List Float
-    sides = sideOf (meanAt iq fs) carrier (isIn Gap class) (window.blocks iq (windowOf fs))
-
-    abbrev pub interiors : List Float
-    interiors = picked (isIn Interior class) (blockPower (meanAt iq fs carrier)) (window.blocks iq (windowOf fs))
-
-    pub side-powers : (i : ℕ) → i < length sides → Amount (getD sides i nan)
-    side-powers = every-at Amount sides (side-amounts (isIn Gap class) (window.blocks iq (windowOf fs)) (omega arith) carrier)
-
-    pub interior-powers : (i : ℕ) → i < length interiors → Amount (getD interiors i nan)
-    interior-powers = every-at Amount interiors (powers-amounts (isIn Interior class) (window.blocks iq (windowOf fs)) (omega arith) carrier)
 
 -- ---- their order
 

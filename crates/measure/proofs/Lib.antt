@@ -12,8 +12,7 @@
 -- Same      what the evidence depends on: `reference-same`, `with-same`, `evidence-same`
 -- Evidences  the evidence of a work slice, and of a prepared one: `evidence-is`, `evidence-prepared`, `check-is`
 -- Measured  both measures from one prepared slice: `classes-held`, `classes-counted`, `measures-are`
--- Levels    the powers are amounts: `power-amount`, `side-amounts`, `side-powers`, `interior-powers`; their order is that
---           of the values: `order-is`
+-- Levels    the powers are amounts: `power-amount`, `side-amounts`; their order is that of the values: `order-is`
 -- Absence   the offset is absent exactly when there is no pair: `absent-exactly`, `present-exactly`
 -- ReachEvidence  what the evidence of a recording depends on: `evidence-reach`, `evidence-check-reach`
 pub mod Ratios

@@ -1,4 +1,5 @@
--- The ways out of `ratio_db`, the floor under its lower side, and `clean`, and what the residual check answers where a class has no block.
+-- The ways out of `ratio_db`, the floor under its lower side, and `clean`, and what the residual check answers where a
+-- class has no block.
 use mathlib.Core.Path.{_≡_, refl}
 use mathlib.Core.Bool.{true, false}
 use lib.Ieee.{Float, inf, lt, ofBits, ofInt, div}

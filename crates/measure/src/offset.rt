@@ -1,5 +1,5 @@
-// The offset of a second carrier from the strong one, by the pairs of gap blocks. Rust: lines 573 to 596 of cancel.rs in
-// second_carrier_evidence.
+// The offset of a second carrier from the strong one, by the pairs of gap blocks. Rust: lines 573 to 596 of cancel.rs
+// in second_carrier_evidence.
 use constants::PAIR_FACTOR;
 use gaps::pairs::Pairs;
 use gaps::pairs::in_pair;

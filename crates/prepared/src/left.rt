@@ -1,5 +1,6 @@
-// What is left of the blocks' means once the fits are subtracted. Rust: lines 486 to 491 of cancel.rs, the loop over the
-// fits in residual_check, which finds each sample's block by a division; here each block of a span is done at one go.
+// What is left of the blocks' means once the fits are subtracted. Rust: lines 486 to 491 of cancel.rs, the loop over
+// the fits in residual_check, which finds each sample's block by a division; here each block of a span is done at one
+// go.
 use crate::sections::LEFT;
 use crate::sections::POWERS;
 use complex::Complex;

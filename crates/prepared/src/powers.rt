@@ -1,5 +1,5 @@
-// The powers of the blocks of one class, one after the other in the work slice, and a percentile of them. Rust: lines 493
-// to 502 of cancel.rs in residual_check, 528 to 531 in second_carrier_evidence, with the `percentile` of each list.
+// The powers of the blocks of one class, one after the other in the work slice, and a percentile of them. Rust: lines
+// 493 to 502 of cancel.rs in residual_check, 528 to 531 in second_carrier_evidence, with the `percentile` of each list.
 use classes::BlockClass;
 use rank::Percentile;
 use rank::select::percentile;

@@ -39,7 +39,7 @@ use stored::units::long;
 // Where a case's figures begin, in bytes.
 const FIGURES: usize = 88;
 
-const CLASSIFY_FIGURES: usize = 40;
+const CLASSIFY_ANSWER: usize = 40;
 
 fn done(equal: bool) -> Answered {
     Answered { equal, no: 0 }
@@ -225,7 +225,7 @@ pub fn classify(body: &[u8]) -> Answered {
         coherence: double(body, 8),
     };
     let answer = of_hypothesis(cancel::classify(e));
-    done(same_figures(&answer, figures(body, CLASSIFY_FIGURES)))
+    done(same_figures(&answer, figures(body, CLASSIFY_ANSWER)))
 }
 
 // The buffer holds the recording.

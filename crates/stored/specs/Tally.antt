@@ -31,8 +31,8 @@ meantOf equal t = plus 75 1 0 (cond (not equal) 1 0) (plus 74 1 0 1 t)
 abbrev pub countedOf : ℕ → Bool → Bool → ℕ → List ℕ → List ℕ
 countedOf call meant equal number t = cond meant (meantOf equal t) (asked call equal number t)
 
--- what a run adds to that, unless it is meant to differ: its hypothesis where it is accepted; whether it said taken, and
--- the samples that it changed
+-- what a run adds to that, unless it is meant to differ: its hypothesis where it is accepted; whether it said taken,
+-- and the samples that it changed
 unfoldable pub ranOf : ℕ → ℕ → Bool → ℕ → List ℕ → List ℕ
 ranOf number hypothesis taken changed t =
     plus 73 1 0 (cond taken changed 0) (plus 72 1 0 (cond taken 1 0) (plus 68 4 hypothesis (cond (eqb number 0) 1 0) t))

@@ -1,5 +1,5 @@
--- `format::input::read_to_end` meets its contract. The invariant: there is room for more bytes than are there. Each turn
--- leaves less room, since the reading goes on only where bytes came. Assumes nothing.
+-- `format::input::read_to_end` meets its contract. The invariant: there is room for more bytes than are there. Each
+-- turn leaves less room, since the reading goes on only where bytes came. Assumes nothing.
 use Prim.Native.Nat.{_-_, _≤_, _<_}
 use native.Mathlib.Omega.{arith}
 use mathlib.Core.Path.{_≡_, sym, _∙_}
