@@ -17,9 +17,9 @@ use Rattle.fits.specs.declared.fit.Fit.{Fit}
 use Rattle.fits.specs.declared.fit.Fit.the-variants.{Fitted, Skipped}
 use Rattle.fits.specs.Fit.{fitOf}
 
--- Eight numbers a fit; a place is one record.
+-- A fit has the numbers of its element and four more; a place is one record.
 abbrev pub FIT : ℕ
-FIT = 8
+FIT = ELEMENT + 4
 
 -- the fit whose numbers begin at number `at` of a list: those of its element, the gain's two, slope and reference
 abbrev pub fitFrom : List Float → ℕ → ElementFit

@@ -18,8 +18,8 @@ ghost use Rattle.elements.specs.Element.{ELEMENT, elementsIn};
 ghost use Rattle.fits.specs.List.{FIT, fitAt, handedFits, ifFitted, fitsOf};
 ghost use Rattle.fits.specs.Inner.{AllTimed, putFit, fitsFrom};
 
-// How many numbers a fit has in a list: a place.
-pub const FIT: usize = 8;
+// How many numbers a fit has in a list, a place: those of its element and four more.
+pub const FIT: usize = ELEMENT + 4;
 
 // A fit at place p: the numbers of its element, then the gain's two, slope and reference.
 pub fn put_fit(out: &mut [f64], p: usize, f: ElementFit)

@@ -9,7 +9,7 @@ ghost use lib.ListN.{length};
 ghost use Rattle.float.specs.Ops.{_⊘_};
 ghost use Rattle.trig.specs.Circle.{quarterSines};
 ghost use Rattle.complex.specs.Rows.{zAt, zSet};
-ghost use Rattle.fits.specs.List.{fitsIn};
+ghost use Rattle.fits.specs.List.{FIT, fitsIn};
 ghost use Rattle.synth.specs.Removal.{lessSingle, sentAt, subtracted};
 ghost use Rattle.synth.specs.Inner.{lessPart};
 
@@ -58,7 +58,7 @@ pub fn subtract(
     sine: &[f64; 1025],
 )
     requires { ⌜ length (now buf) ≤ 2097152 ⌝ }
-    requires { ⌜ 8 * count ≤ length (now fits) ⌝ }
+    requires { ⌜ FIT * count ≤ length (now fits) ⌝ }
     requires { ⌜ now sine ≡ quarterSines ⌝ }
     ensures { λ _. ⌜ now (buf .exit) ≡ subtracted fs (carrier ⊘ fs) (now (buf .entry)) (fitsIn (now (fits .entry)) count) ⌝ }
 {
