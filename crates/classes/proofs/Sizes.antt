@@ -10,7 +10,7 @@ use Rattle.float.specs.Ops.{_⊕_, of}
 use Rattle.row.specs.Window.{Rate, stepOf, windowOf}
 use Rattle.row.proofs.Steps.{step-low, step-high}
 use Rattle.classes.specs.Classify.{blocksOf, blockCentre}
-use Rattle.classes.specs.Inner.{halfOf}
+use Rattle.classes.specs.Inner.{toCentre}
 
 pub window-small : (fs : Float) (len : ℕ) → Rate fs → len ≡ windowOf fs → len ≤ 512
 window-small fs len r e = omega (arith, step-high fs r)
@@ -34,5 +34,5 @@ first-fits b len m h g s = record { fits = let small = block-small b len m h g s
 pub first-exact : (b len m : ℕ) → b < m → m ≤ 131072 → len ≤ 512 → b * len ≤ 9007199254740992
 first-exact b len m h g s = let small = block-small b len m h g s in omega arith
 
-pub centre-is : (len b : ℕ) (h a : Float) → h ≡ halfOf len → a ≡ of (b * len) → a ⊕ h ≡ blockCentre len b
+pub centre-is : (len b : ℕ) (h a : Float) → h ≡ toCentre len → a ≡ of (b * len) → a ⊕ h ≡ blockCentre len b
 centre-is len b h a e f = rw (e, f)

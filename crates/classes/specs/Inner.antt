@@ -14,8 +14,8 @@ use Rattle.classes.specs.Class.{codeOf}
 use Rattle.classes.specs.Classify.{timesOf, blockCentre, inRange, near, inside, atEdge}
 
 -- from a block's first sample to its centre
-abbrev pub halfOf : ℕ → Float
-halfOf len = (of len ⊖ one) ⊘ two
+abbrev pub toCentre : ℕ → Float
+toCentre len = (of len ⊖ one) ⊘ two
 
 -- a list with x at each place that passes a test
 unfoldable pub labelled : List Float → (ℕ → Bool) → Float → List Float

@@ -1,5 +1,5 @@
-// The classes of a recording's blocks, by the times of an estimate. Rust: classify_blocks, whose row of classes is a
-// lent slice here that holds the number of each.
+// The classes of a recording's blocks, by the times of an estimate. Rust: classify_blocks, lines 418 to 468 of
+// cancel.rs, whose row of classes is a lent slice here that holds the number of each.
 use crate::class::BlockClass;
 use crate::class::code;
 use constants::EDGE_ZONE_S;
@@ -18,7 +18,7 @@ ghost use Rattle.fits.specs.List.{FIT, fitsIn};
 ghost use Rattle.classes.specs.declared.class.BlockClass.the-variants.{Edge, Interior, Other};
 ghost use Rattle.classes.specs.Class.{codeOf, codesOf};
 ghost use Rattle.classes.specs.Classify.{timesOf, blocksOf, firstFrom, pastLast, inRange, inside, atEdge, onRim, inTurn, classOf, countIn, countsIn};
-ghost use Rattle.classes.specs.Inner.{halfOf, labelled, amid, elementLabelled, fitLabelled};
+ghost use Rattle.classes.specs.Inner.{toCentre, labelled, amid, elementLabelled, fitLabelled};
 
 // How many blocks have each class.
 pub struct ClassCounts {
@@ -29,9 +29,9 @@ pub struct ClassCounts {
 }
 
 // From a block's first sample to its centre: half of what is between its first sample and its last.
-fn half_of(len: usize) -> f64
+fn to_centre(len: usize) -> f64
     requires { ⌜ len ≤ 512 ⌝ }
-    ensures { λ r. ⌜ r ≡ halfOf len ⌝ }
+    ensures { λ r. ⌜ r ≡ toCentre len ⌝ }
 {
     (float::exact(len) - 1.0) / 2.0
 }
@@ -42,7 +42,7 @@ fn first_from(len: usize, lo: f64) -> usize
     ensures { λ r. ⌜ r ≡ firstFrom len lo ⌝ }
 {
     let l = float::exact(len);
-    float::to_whole(float::max(float::ceil((lo - half_of(len)) / l), 0.0))
+    float::to_whole(float::max(float::ceil((lo - to_centre(len)) / l), 0.0))
 }
 
 // Rust: `b` in `range`.
@@ -51,7 +51,7 @@ fn past_last(len: usize, hi: f64) -> usize
     ensures { λ r. ⌜ r ≡ pastLast len hi ⌝ }
 {
     let l = float::exact(len);
-    float::to_whole(float::max(float::floor((hi - half_of(len)) / l) + 1.0, 0.0))
+    float::to_whole(float::max(float::floor((hi - to_centre(len)) / l) + 1.0, 0.0))
 }
 
 // Rust: `vec![BlockClass::Gap; blocks]`.
@@ -85,7 +85,7 @@ fn label_amid(len: usize, lo: f64, hi: f64, x: f64, class: &mut [f64])
 {
     let a = first_from(len, lo);
     let e = float::least(past_last(len, hi), class.len());
-    let half = half_of(len);
+    let half = to_centre(len);
     for b in a..e {
         let centre = float::exact(b * len) + half;
         if centre > lo && centre < hi {
@@ -197,7 +197,7 @@ fn label_rim(fs: f64, len: usize, n: usize, class: &mut [f64])
 {
     let rim = RIM_S * fs;
     let last = float::exact(n) - rim;
-    let half = half_of(len);
+    let half = to_centre(len);
     let x = code(BlockClass::Other);
     let blocks = class.len();
     for b in 0..blocks {

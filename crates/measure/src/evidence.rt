@@ -2,7 +2,7 @@
 // cancel.rs, which goes in this order:
 //
 //     522 to 524   the blocks' means and their classes           prepared::prepare
-//     525 to 527   gap_idx, `interior`: blocks by their class    gaps::pairs, prepared::powers
+//     525 to 531   gap_idx, `interior`: blocks by their class    gaps::pairs, prepared::powers
 //     532 to 547   `side`, `floor`, `reference`                  gaps::reference
 //     548 to 569   `hot`, and the pairs with their products      gaps::pairs
 //     573 to 596   `offset_hz`                                   measure::offset

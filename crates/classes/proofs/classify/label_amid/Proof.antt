@@ -33,7 +33,7 @@ loop-again c =
     let at = c .before in
     let loop = at .before .before in
     let inv = loop .loop .inv in
-    let centre = centre-is _ _ _ _ (loop .before .half-of .ensures) (at .exact .ensures) in
+    let centre = centre-is _ _ _ _ (loop .before .to-centre .ensures) (at .exact .ensures) in
     ⊎-elim
     (λ w. (
       search needs,

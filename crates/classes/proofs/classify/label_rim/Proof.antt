@@ -19,8 +19,8 @@ Inv-loop fs len n class₀ rim last half x blocks b₀ class b =
 abbrev μ-loop : tie.MeasureT-loop
 μ-loop fs len n class₀ rim last half x blocks b₀ class b = blocks - b
 
-half-of-requires : tie.Need-half-of-requires Inv-loop μ-loop
-half-of-requires c κs = search (needs, window-small)
+to-centre-requires : tie.Need-to-centre-requires Inv-loop μ-loop
+to-centre-requires c κs = search (needs, window-small)
 
 mul-exact : tie.Need-mul-exact Inv-loop μ-loop
 mul-exact c = first-fits _ _ (length (c .before .loop .class)) (search needs) (search needs) (search (needs, window-small))
@@ -35,7 +35,7 @@ loop-again c =
     let inv = loop .loop .inv in
     let made = loop .before .before in
     let args = made .before .before .before in
-    let centre = centre-is _ _ _ _ (made .half-of .ensures) (at .exact2 .ensures) in
+    let centre = centre-is _ _ _ _ (made .to-centre .ensures) (at .exact2 .ensures) in
     let rim = rim-is _ _ _ _ _ _ (args .pre .1 .0) (made .before .exact .ensures) centre in
     ⊎-elim
     (λ w. (
@@ -58,7 +58,7 @@ label-rim-spec =
     Inv-loop
     μ-loop
     (λ c κs. search needs)
-    half-of-requires
+    to-centre-requires
     (λ c κs. search needs)
     (λ c. search (needs, label-none))
     mul-exact
