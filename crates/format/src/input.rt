@@ -1,7 +1,7 @@
 // A recording as it is read: from an open file, or from standard input.
 ghost use mathlib.Core.Path.{_≡_};
 ghost use mathlib.Core.Bool.{false};
-ghost use Prim.Native.Nat.{_+_, _≤_, min, max};
+ghost use Prim.Native.Nat.{_+_, _-_, _≤_, min, max};
 ghost use lib.ListN.{length};
 ghost use Rattle.io.specs.Counts.{Counts};
 ghost use Rattle.format.specs.Bytes.{INPUT};
@@ -59,7 +59,7 @@ fn meaning(read: Read, room: usize) -> Reading
 // Reads the next bytes behind those that are there.
 fn read_on(fd: i32, bytes: &mut [u8], there: usize, asked: usize) -> Read
     requires { ⌜ (1 ≤ asked) × (there + asked ≤ length (now bytes)) ⌝ }
-    ensures { λ r. ⌜ (r .there ≡ there) × (Made (length (now (bytes .exit))) r) ⌝ }
+    ensures { λ r. ⌜ (r .there ≡ there) × (r .asked ≡ asked) × (Made (length (now (bytes .exit))) r) ⌝ }
     ensures { λ r. ⌜ length (now (bytes .exit)) ≡ length (now (bytes .entry)) ⌝ }
 {
     let end = there + asked;
@@ -71,10 +71,11 @@ fn read_on(fd: i32, bytes: &mut [u8], there: usize, asked: usize) -> Read
     }
 }
 
-// Reads a piece at a time, until a read ends it; answers that read.
+// Reads a piece at a time, until a read ends it; answers that read, which asked for a piece as every one does.
 fn read_to_end(fd: i32, bytes: &mut [u8], piece: usize) -> Read
     requires { ⌜ 1 ≤ length (now bytes) ⌝ }
-    ensures { λ r. ⌜ (Made (length (now (bytes .exit))) r) × (goesOn (readingOf (length (now (bytes .exit))) r) ≡ false) ⌝ }
+    ensures { λ r. ⌜ (Made (length (now (bytes .exit))) r) × (r .asked ≡ min (max 1 piece) (length (now (bytes .exit)) - r .there))
+        × (goesOn (readingOf (length (now (bytes .exit))) r) ≡ false) ⌝ }
 {
     let mut n = 0;
     loop {

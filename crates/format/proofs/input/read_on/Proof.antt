@@ -21,7 +21,7 @@ returns c =
     let read = c .before .before in
     let start = read .before .before .before in
     let long = same-len-mid (start .args .there) (start .args .there + start .args .asked - start .args .there) (start .args .bytes .now) (read .read .last .1 .0) (read .read .kept .1 .0) in
-    ((refl, record { something = start .pre .0; within = omega (arith, start .pre .1); moved = rw (toZ-ofZ {w = w64} {z = read .read .result} (record { sfits = read .read .ok })) (rw (part-length read) at (read .read .ensures)) }), long)
+    ((refl, refl, record { something = start .pre .0; within = omega (arith, start .pre .1); moved = rw (toZ-ofZ {w = w64} {z = read .read .result} (record { sfits = read .read .ok })) (rw (part-length read) at (read .read .ensures)) }), long)
 
 pub read-on-spec : {M : Type 1} → statement M
 read-on-spec = tie.close (tie.spec (λ c. search needs) (λ c. search needs) (λ c. search needs) (λ c. search needs) (λ c κs. search needs) (λ c. search needs) returns)

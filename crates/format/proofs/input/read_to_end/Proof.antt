@@ -20,7 +20,7 @@ read-on-requires : tie.Need-read-on-requires Inv-loop μ-loop
 read-on-requires c κs = (omega (arith, c .before .asked .ensures), omega (arith, c .before .asked .ensures))
 
 meaning-requires : tie.Need-meaning-requires Inv-loop μ-loop
-meaning-requires c κs = c .before .before .read-on .ensures .0 .1
+meaning-requires c κs = c .before .before .read-on .ensures .0 .2
 
 -- where the reading goes on, more bytes are there than before, and there is room for more
 further : (c : tie.After-known-told Inv-loop μ-loop) → let read = c .before .before .before .before .before .before in (read .before .before .before .loop .n < c .before .more .given .0 .0) × (c .before .more .given .0 .0 < length (read .before .before .before .loop .bytes)) × (length (read .read-on .last .1 .0) ≡ length (read .before .before .before .loop .bytes))
@@ -33,17 +33,20 @@ further c =
 returns : tie.Need-returns Inv-loop μ-loop
 returns c =
     let asked = c .before .before in
-    (asked .before .before .before .read-on .ensures .0 .1, rw (sym (asked .meaning .ensures) ∙ c .enum-told .given .1))
+    let read = asked .before .before .before in
+    (read .read-on .ensures .0 .2, rw (read .read-on .ensures .0 .0, read .read-on .ensures .0 .1, read .read-on .ensures .1) (read .before .before .asked .ensures), rw (sym (asked .meaning .ensures) ∙ c .enum-told .given .1))
 
 returns-2 : tie.Need-returns-2 Inv-loop μ-loop
 returns-2 c =
     let asked = c .before .before in
-    (asked .before .before .before .read-on .ensures .0 .1, rw (sym (asked .meaning .ensures) ∙ c .enum-told2 .given .1))
+    let read = asked .before .before .before in
+    (read .read-on .ensures .0 .2, rw (read .read-on .ensures .0 .0, read .read-on .ensures .0 .1, read .read-on .ensures .1) (read .before .before .asked .ensures), rw (sym (asked .meaning .ensures) ∙ c .enum-told2 .given .1))
 
 returns-3 : tie.Need-returns-3 Inv-loop μ-loop
 returns-3 c =
     let asked = c .before .before in
-    (asked .before .before .before .read-on .ensures .0 .1, rw (sym (asked .meaning .ensures) ∙ c .enum-told3 .given .1))
+    let read = asked .before .before .before in
+    (read .read-on .ensures .0 .2, rw (read .read-on .ensures .0 .0, read .read-on .ensures .0 .1, read .read-on .ensures .1) (read .before .before .asked .ensures), rw (sym (asked .meaning .ensures) ∙ c .enum-told3 .given .1))
 
 loop-less : tie.Need-loop-less Inv-loop μ-loop
 loop-less c = let on = further c in omega (arith, c .before .before .before .before .before .before .before .before .before .loop .inv)
