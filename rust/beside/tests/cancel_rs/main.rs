@@ -1,7 +1,7 @@
 //! One program, written for the module cancel.rs, over the module and over the package that goes in its place. All
-//! that the package asks of it is to take the `Result`s apart: `told!` stands around each call. Over the module with
-//! document 01's stand-ins its answers are the package's to the last bit; over the module as published, whose sine and
-//! cosine are the platform's, they are near.
+//! that the package asks of it is to take the `Result`s apart (`told!` stands around each call) and to have an arm `_`
+//! where it matches a hypothesis. Over the module with document 01's stand-ins its answers are the package's to the last
+//! bit; over the module as published, whose sine and cosine are the platform's, they are near.
 
 #![cfg(cancel_rs)]
 
@@ -102,5 +102,5 @@ fn refusals() {
     assert_eq!((refusal, refusal.number()), (cancel::Refusal::Sample, 3));
     assert!(before.iter().copied().eq(buf.iter().map(|x| x.im.to_bits())));
     assert_eq!(cancel::run(&mut buf, 1.0, r.hint_hz).unwrap_err(), cancel::Refusal::Rate);
-    assert_eq!(cancel::estimate_strong(&r.iq, r.fs, r.fs).unwrap_err(), cancel::Refusal::Hint);
+    assert_eq!(cancel::estimate_strong(&r.iq, r.fs, r.fs).unwrap_err(), cancel::Refusal::Carrier);
 }

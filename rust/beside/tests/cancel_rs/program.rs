@@ -70,6 +70,8 @@ pub fn program(iq: &[Complex32], fs: f64, hint_hz: f64) -> Outcome {
         Hypothesis::TwoSignalCw { .. } => 1,
         Hypothesis::NonCw => 2,
         Hypothesis::Unresolved => 3,
+        #[allow(unreachable_patterns)]
+        _ => panic!("a hypothesis that the module does not have"),
     };
     Outcome { notes, hypothesis, taken }
 }
@@ -119,6 +121,8 @@ fn note_evidence(notes: &mut Vec<Note>, e: &SecondCarrierEvidence, hypothesis: H
         Hypothesis::TwoSignalCw { offset_hz } => notes.push(Note::number("two", offset_hz)),
         Hypothesis::NonCw => notes.push(Note::count("no CW", 0)),
         Hypothesis::Unresolved => notes.push(Note::count("unresolved", 0)),
+        #[allow(unreachable_patterns)]
+        _ => notes.push(Note::count("unknown", 0)),
     }
 }
 
