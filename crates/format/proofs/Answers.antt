@@ -8,9 +8,9 @@ use lib.IntN.{ℤ, pos, negsuc, natAbs}
 use lib.Signed.{ltZ, nonNeg}
 use borrow.Author.Tests.{ltb-true, lt-ltb, le-ltb}
 use Rattle.libc.specs.Io.{Moved}
-use Rattle.format.specs.declared.input.Read.{Read}
-use Rattle.format.specs.declared.input.Reading.{Reading}
-use Rattle.format.specs.declared.input.Reading.the-variants.{Failed, Ended, Full, More}
+use Rattle.format.specs.declared.reads.Read.{Read}
+use Rattle.format.specs.declared.reads.Reading.{Reading}
+use Rattle.format.specs.declared.reads.Reading.the-variants.{Failed, Ended, Full, More}
 use Rattle.format.specs.Input.{Made, roomFor, cameOf, answerOf, readingOf, endOf, countOf}
 
 -- a negative answer

@@ -5,9 +5,9 @@ use mathlib.Core.Bool.{Bool, true, false}
 use lib.Dec.{ltb}
 use lib.IntN.{ℤ, pos, negsuc}
 use Rattle.libc.specs.Io.{Moved}
-use Rattle.format.specs.declared.input.Read.{Read}
-use Rattle.format.specs.declared.input.Reading.{Reading}
-use Rattle.format.specs.declared.input.Reading.the-variants.{Failed, Ended, Full, More}
+use Rattle.format.specs.declared.reads.Read.{Read}
+use Rattle.format.specs.declared.reads.Reading.{Reading}
+use Rattle.format.specs.declared.reads.Reading.the-variants.{Failed, Ended, Full, More}
 
 -- A read as it is made: it asks for something, behind the bytes that are there and within the room; its answer is −1,
 -- or how many bytes came, at most as many as were asked for.

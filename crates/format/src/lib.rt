@@ -1,6 +1,7 @@
 // What the programs read and write as bytes: a recording's samples, and text with numbers in base ten.
 pub mod bytes;
 mod input;
+mod reads;
 pub mod text;
 
 pub use bytes::bytes_ok;

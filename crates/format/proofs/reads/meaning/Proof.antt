@@ -1,4 +1,4 @@
--- `format::input::meaning` meets its contract. A signed answer is read back from its bits, and fits them. Assumes
+-- `format::reads::meaning` meets its contract. A signed answer is read back from its bits, and fits them. Assumes
 -- nothing.
 use Prim.Native.Nat.{ℕ, _+_, _≤_}
 use native.Mathlib.Omega.{arith}
@@ -11,8 +11,8 @@ use mir.Val.{toZ, ofZ}
 use mir.Facts.{toZ-ofZ}
 use Rattle.format.specs.Input.{cameOf, readingOf}
 use Rattle.format.proofs.Answers.{failed-is, not-negative, came-is, moved-most, ended-is, more-is, full-is}
-use Rattle.format.proofs.input.meaning.Statement.{statement}
-use Rattle.format.proofs.input.meaning.Tie as tie
+use Rattle.format.proofs.reads.meaning.Statement.{statement}
+use Rattle.format.proofs.reads.meaning.Tie as tie
 
 back : (c : tie.After-struct-told) → toZ w64 (ofZ w64 (c .before .args .read .answer)) ≡ c .before .args .read .answer
 back c = toZ-ofZ (record { sfits = c .struct-told .given .1 .1 .0 .1 })

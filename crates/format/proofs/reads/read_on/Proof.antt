@@ -1,4 +1,4 @@
--- `format::input::read_on` meets its contract. Assumes nothing.
+-- `format::reads::read_on` meets its contract. Assumes nothing.
 use Prim.Native.Nat.{_+_, _-_}
 use native.Mathlib.Omega.{arith}
 use mathlib.Core.Path.{_≡_, refl, sym}
@@ -7,8 +7,8 @@ use borrow.Rule.Slice.PartMut.{same-len-mid}
 use mir.Syntax.{w64}
 use mir.Facts.{toZ-ofZ}
 use borrow.Author.Needs.{needs}
-use Rattle.format.proofs.input.read_on.Statement.{statement}
-use Rattle.format.proofs.input.read_on.Tie as tie
+use Rattle.format.proofs.reads.read_on.Statement.{statement}
+use Rattle.format.proofs.reads.read_on.Tie as tie
 
 -- as many bytes were asked for as the part that was lent has
 part-length : (c : tie.After-read) → let start = c .before .before .before in length (take (start .args .there + start .args .asked - start .args .there) (drop (start .args .there) (start .args .bytes .now))) ≡ start .args .asked

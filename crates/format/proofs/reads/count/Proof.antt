@@ -1,9 +1,9 @@
--- `format::input::count` meets its contract. Assumes nothing.
+-- `format::reads::count` meets its contract. Assumes nothing.
 use mathlib.Core.Path.{sym, _∙_}
 use borrow.Author.Needs.{needs}
 use Rattle.format.specs.Input.{countOf}
-use Rattle.format.proofs.input.count.Statement.{statement}
-use Rattle.format.proofs.input.count.Tie as tie
+use Rattle.format.proofs.reads.count.Statement.{statement}
+use Rattle.format.proofs.reads.count.Tie as tie
 
 returns : tie.Need-returns
 unfolding countOf
