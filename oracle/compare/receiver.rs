@@ -9,6 +9,7 @@ use oracle::figures::RUN;
 use oracle::header;
 use oracle::lent::Bits;
 use oracle::noes;
+use oracle::questions::{CARRIER, RATE};
 use oracle::random::Random;
 use oracle::recordings::{sent, Aim, AIMS};
 use oracle::scene::{Recording, Scene};
@@ -80,7 +81,7 @@ impl Receiver {
         for aim in AIMS {
             scenes.push(Scene::least(short(aim, &mut r), Default::default()));
         }
-        for question in 1..=4 {
+        for question in RATE..=CARRIER {
             let mut scene = scenes[2].clone();
             noes::answer_no(&mut scene, question, &mut r);
             scenes.push(scene);

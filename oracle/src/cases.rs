@@ -7,7 +7,7 @@ use crate::recordings::Aim;
 use crate::scene::{Given, Recording, Scene};
 use crate::signals::{real, senders, Sender};
 use crate::stored::{has_room, is_stored, whole, Stored, Wrong};
-use crate::{crowded, given, limits, noes};
+use crate::{crowded, given, limits, noes, questions};
 use std::collections::BTreeSet;
 
 /// How many runs of each kind are stored with all calls about them. The kinds are those of `answers::run`.
@@ -133,8 +133,8 @@ fn small_ones(stored: &mut Stored) {
     }
 }
 
-/// Each question answered with no alone, and each two of them, asked by every call that then refuses. The last has the
-/// most ways to be answered so.
+/// Each of 01's questions answered with no alone, and each two of them, asked by every call that then refuses. The last
+/// has the most ways to be answered so.
 fn refusals(stored: &mut Stored) {
     let mut r = Random::new(9);
     let fs = 3_000.0;
@@ -142,9 +142,10 @@ fn refusals(stored: &mut Stored) {
     stored.recording(&iq, crowded::SCALE);
     let rec = Recording { what: "refused".into(), fs, iq, hint_hz: 0.0 };
     let given = Given::own(&rec);
-    let pairs = (1..=7).flat_map(|first| (1..=first).map(move |second| (first, second)));
+    let pairs = (questions::RATE..=questions::GIVEN)
+        .flat_map(|first| (questions::RATE..=first).map(move |second| (first, second)));
     let mut refused = BTreeSet::new();
-    for (first, second) in pairs.chain([(7, 7); 12]) {
+    for (first, second) in pairs.chain([(questions::GIVEN, questions::GIVEN); 12]) {
         let mut s = Scene::new(rec.clone(), given.clone(), &mut r);
         noes::answer_no(&mut s, first, &mut r);
         if second != first {
@@ -204,7 +205,7 @@ fn meant_to_differ(stored: &mut Stored) {
             ask_wrongly(stored, &s, name, *wrong);
         }
     }
-    noes::answer_no(&mut s, 2, &mut r);
+    noes::answer_no(&mut s, questions::COUNT, &mut r);
     for (name, _) in WRONG.iter().filter(|(_, all)| all.contains(&Wrong::Number)) {
         ask_wrongly(stored, &s, name, Wrong::Number);
     }

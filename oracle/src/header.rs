@@ -14,13 +14,17 @@ pub fn version() -> u64 {
     part("CANCEL_VERSION_MAJOR") * 1000 + part("CANCEL_VERSION_MINOR")
 }
 
+/// The name that the refusal of this number has in `enum cancel_refusal`, without what all begin with.
+pub fn refusal(number: u64) -> Option<&'static str> {
+    HEADER.lines().find_map(|l| {
+        let (name, said) = l.trim().trim_end_matches(',').split_once(" = ")?;
+        name.strip_prefix("CANCEL_REFUSED_").filter(|_| said.parse() == Ok(number))
+    })
+}
+
 /// The reason that cancel_reason has for the refusal of this number, by the name that the number has.
 pub fn reason(number: u64) -> Option<String> {
-    let name = HEADER.lines().find_map(|l| {
-        let (name, said) = l.trim().trim_end_matches(',').split_once(" = ")?;
-        (name.starts_with("CANCEL_REFUSED_") && said.parse() == Ok(number)).then_some(name)
-    })?;
-    let (_, after) = HEADER.split_once(&format!("case {name}:"))?;
+    let (_, after) = HEADER.split_once(&format!("case CANCEL_REFUSED_{}:", refusal(number)?))?;
     let (said, _) = after.split_once(';')?;
     Some(said.split('"').skip(1).step_by(2).collect())
 }

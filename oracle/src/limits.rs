@@ -9,7 +9,7 @@ use crate::by_stand_ins::{
 };
 use crate::calls::call;
 use crate::figures::CHECK;
-use crate::questions::MOST_FLOATS;
+use crate::questions::{LAST, MOST_FLOATS};
 use crate::random::Random;
 use crate::recordings::{change_of_step, on_off, sent, Aim};
 use crate::scene::{Evidence, Given, Recording, Scene};
@@ -105,7 +105,7 @@ fn questions<E>(r: &mut Random, ask: Ask<E>) -> Result<(), E> {
     let rec = Recording { what: "questions".into(), fs, iq, hint_hz: 40.0 };
     let given = Given::own(&rec);
     assert!(given.element_count > 0 && given.fit_count > 0, "an estimate to be refused");
-    for first in (1..=7).rev() {
+    for first in (1..=LAST).rev() {
         for second in (1..=first).rev() {
             for _ in 0..6 {
                 let mut scene = Scene::new(rec.clone(), given.clone(), r);
@@ -338,7 +338,10 @@ pub fn longest<E>(r: &mut Random, ask: Ask<E>) -> Result<(), E> {
             _ => k as f32,
         });
         let rec = Recording { what: what.into(), fs, iq, hint_hz: 0.0 };
-        ask(&Scene { only: &["cancel_find_elements", "cancel_amplitude_row"], ..Scene::new(rec, Given::default(), r) })?;
+        ask(&Scene {
+            only: &["cancel_find_elements", "cancel_amplitude_row"],
+            ..Scene::new(rec, Given::default(), r)
+        })?;
     }
     for (on, only) in [(1, &["cancel_find_elements"][..]), (10, &["cancel_estimate_strong"]), (40, &[])] {
         let rec = on_off(LONGEST, 2_000.0, on, 1);

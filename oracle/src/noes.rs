@@ -1,16 +1,19 @@
 //! Scenes that a question answers with no, one or several at once.
 
-use crate::questions::{steps, LARGEST, MOST_FLOATS, POSITIONS};
+use crate::questions::{
+    steps, CARRIER, COUNT, GIVEN, LARGEST, LAST, MOST_FLOATS, PLACES, POSITIONS, RATE, SAMPLE, WORK,
+};
 use crate::random::Random;
 use crate::records::{ELEMENT, FIT};
 use crate::scene::Scene;
 
-/// Makes one to three of the seven questions answer no, wherever that can be done; most often one, and most often the
-/// last, which has the most ways to be answered so.
+/// Makes one to three of the questions answer no, wherever that can be done; most often one, and most often that about
+/// what is given, which has the most ways to be answered so.
 pub fn refused(scene: &Scene, r: &mut Random) -> Scene {
     let mut s = scene.clone();
     let many = r.pick(&[1, 1, 1, 2, 3]);
-    let mut noes: Vec<usize> = (0..many).map(|_| r.pick(&[1, 2, 3, 4, 5, 6, 7, 7, 7, 7])).collect();
+    let numbers: Vec<u64> = (RATE..=LAST).chain([GIVEN; 3]).collect();
+    let mut noes: Vec<u64> = (0..many).map(|_| r.pick(&numbers)).collect();
     // Sizes are made wrong while the rate and the recording still say what is right.
     noes.sort_by(|a, b| b.cmp(a));
     noes.dedup();
@@ -21,15 +24,16 @@ pub fn refused(scene: &Scene, r: &mut Random) -> Scene {
     s
 }
 
-pub fn answer_no(s: &mut Scene, question: usize, r: &mut Random) {
+pub fn answer_no(s: &mut Scene, question: u64, r: &mut Random) {
     match question {
-        1 => s.recording.fs = wrong_rate(r),
-        2 => wrong_size(s, r),
-        3 => wrong_sample(s, r),
-        4 => wrong_hint(s, r),
-        5 => too_few_places(s, r),
-        6 => s.work_len = (4 * steps(s.recording.iq.len(), s.recording.fs)).saturating_sub(1 + r.whole(0, 2)),
-        _ => wrong_given(s, r),
+        RATE => s.recording.fs = wrong_rate(r),
+        COUNT => wrong_size(s, r),
+        SAMPLE => wrong_sample(s, r),
+        CARRIER => wrong_hint(s, r),
+        PLACES => too_few_places(s, r),
+        WORK => s.work_len = (4 * steps(s.recording.iq.len(), s.recording.fs)).saturating_sub(1 + r.whole(0, 2)),
+        GIVEN => wrong_given(s, r),
+        _ => panic!("no question {question}"),
     }
 }
 

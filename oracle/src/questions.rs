@@ -4,6 +4,18 @@ use crate::by_stand_ins::way_in::edge_window;
 use crate::records::{ELEMENT, FIT};
 use crate::scene::Given;
 
+/// The questions' numbers, by the names that include/cancel.h has for their refusals.
+pub const RATE: u64 = 1;
+pub const COUNT: u64 = 2;
+pub const SAMPLE: u64 = 3;
+pub const CARRIER: u64 = 4;
+pub const PLACES: u64 = 5;
+pub const WORK: u64 = 6;
+pub const GIVEN: u64 = 7;
+
+/// The last of them.
+pub const LAST: u64 = GIVEN;
+
 /// Most floats of a recording.
 pub const MOST_FLOATS: usize = 2_097_152;
 /// Largest size of a given number: 2^200.
@@ -42,53 +54,53 @@ fn rate_holds(fs: f64) -> bool {
 }
 
 pub fn rate<'a>(fs: f64) -> Question<'a> {
-    question(1, move || rate_holds(fs))
+    question(RATE, move || rate_holds(fs))
 }
 
 pub fn size<'a>(floats: usize) -> Question<'a> {
-    question(2, move || floats % 2 == 0 && floats <= MOST_FLOATS)
+    question(COUNT, move || floats % 2 == 0 && floats <= MOST_FLOATS)
 }
 
 pub fn finite<'a>(iq: &'a [f32]) -> Question<'a> {
-    question(3, || iq.iter().all(|x| x.is_finite()))
+    question(SAMPLE, || iq.iter().all(|x| x.is_finite()))
 }
 
 pub fn hint<'a>(hz: f64, fs: f64) -> Question<'a> {
-    question(4, move || hz.is_finite() && hz.abs() <= fs / 2.0)
+    question(CARRIER, move || hz.is_finite() && hz.abs() <= fs / 2.0)
 }
 
 /// Has a list of so many places room for what a find can list?
 pub fn room<'a>(places: usize, iq: &'a [f32], fs: f64) -> Question<'a> {
-    question(5, move || places >= steps(iq.len(), fs) / 2)
+    question(PLACES, move || places >= steps(iq.len(), fs) / 2)
 }
 
 /// Has the list of fits a place for each given element?
 pub fn room_for_each<'a>(places: usize, count: usize) -> Question<'a> {
-    question(5, move || places >= count)
+    question(PLACES, move || places >= count)
 }
 
 /// Has a list of so many places room for the amplitude row?
 pub fn room_for_row<'a>(places: usize, iq: &'a [f32], fs: f64) -> Question<'a> {
-    question(5, move || places >= steps(iq.len(), fs).saturating_sub(7))
+    question(PLACES, move || places >= steps(iq.len(), fs).saturating_sub(7))
 }
 
 /// Has a list of so many places room for the class of each block of a recording of so many floats?
 pub fn room_for_classes<'a>(places: usize, iq_len: usize, fs: f64) -> Question<'a> {
-    question(5, move || places >= iq_len / 2 / edge_window(fs).0)
+    question(PLACES, move || places >= iq_len / 2 / edge_window(fs).0)
 }
 
 pub fn work<'a>(len: usize, iq: &'a [f32], fs: f64) -> Question<'a> {
-    question(6, move || len >= 4 * steps(iq.len(), fs))
+    question(WORK, move || len >= 4 * steps(iq.len(), fs))
 }
 
 /// Given elements: their count fits the list, and their numbers are in range.
 pub fn given_elements(given: &Given) -> Question<'_> {
-    question(7, || records_hold(&given.elements, given.element_count, ELEMENT))
+    question(GIVEN, || records_hold(&given.elements, given.element_count, ELEMENT))
 }
 
 /// A given estimate: its two numbers, its elements and its fits.
 pub fn given_estimate(given: &Given) -> Question<'_> {
-    question(7, || {
+    question(GIVEN, || {
         [given.carrier_hz, given.carrier_step_hz].into_iter().all(in_range)
             && records_hold(&given.elements, given.element_count, ELEMENT)
             && records_hold(&given.fits, given.fit_count, FIT)

@@ -2,6 +2,7 @@
 //! taken come, printed (cargo test -- --nocapture), and that each comes in good number.
 
 use oracle::calls::{call, CALLS};
+use oracle::questions::LAST;
 use oracle::random::Random;
 use oracle::scene::Scene;
 use oracle::{given, limits, noes, recordings};
@@ -85,7 +86,7 @@ fn every_call_answers() {
         ("cancel_block_classes", &[1, 2, 5, 7]),
         ("cancel_clean", &[]),
     ] {
-        for number in 1..=7 {
+        for number in 1..=LAST {
             let seen = kinds.contains_key(&format!("{name:31} refused by {number}"));
             assert_eq!(seen, numbers.contains(&number), "{name} and question {number}");
         }

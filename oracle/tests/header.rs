@@ -2,7 +2,8 @@
 //! many figures. A call that the header does not have yet is named.
 
 use oracle::calls::{call, CALLS, FUNCTIONS};
-use oracle::header::{defined, reason, statements};
+use oracle::header::{defined, reason, refusal, statements};
+use oracle::questions::{CARRIER, COUNT, GIVEN, LAST, PLACES, RATE, SAMPLE, WORK};
 
 /// Result, name and parameter types.
 type Prototype = (String, String, Vec<String>);
@@ -95,14 +96,32 @@ fn version() {
     }
 }
 
+/// Each question's number is that of the refusal by its name, and the header has no other.
+#[test]
+fn refusals() {
+    let named = [
+        (RATE, "RATE"),
+        (COUNT, "COUNT"),
+        (SAMPLE, "SAMPLE"),
+        (CARRIER, "CARRIER"),
+        (PLACES, "PLACES"),
+        (WORK, "WORK"),
+        (GIVEN, "GIVEN"),
+    ];
+    assert_eq!(named.len() as u64, LAST);
+    for (number, name) in named {
+        assert_eq!(refusal(number), Some(name));
+    }
+    assert_eq!((refusal(0), refusal(LAST + 1)), (None, None));
+}
+
 /// Each refusal that the oracle gives has a reason of its own: what is wrong, a colon, what to do.
 #[test]
 fn reasons() {
     let reasons: Vec<String> =
-        (1..=7).map(|number| reason(number).unwrap_or_else(|| panic!("none for {number}"))).collect();
+        (1..=LAST).map(|number| reason(number).unwrap_or_else(|| panic!("none for {number}"))).collect();
     for (i, said) in reasons.iter().enumerate() {
         assert!(said.split_once(": ").is_some_and(|(wrong, to_do)| wrong.len() > 20 && to_do.len() > 20), "{said}");
         assert!(!reasons[..i].contains(said), "{said}: twice");
     }
-    assert_eq!((reason(0), reason(8)), (None, None));
 }

@@ -6,6 +6,7 @@ use oracle::figures::RUN_TAKEN;
 use oracle::handed::Handed;
 use oracle::lent::{Bits, Lent};
 use oracle::noes;
+use oracle::questions::LAST;
 use oracle::random::Random;
 use oracle::recordings::{sent, Aim};
 use oracle::records::{ELEMENT, FIT};
@@ -19,7 +20,10 @@ fn scene() -> Scene {
         let mut scene = Scene::own(sent(Aim::Neighbour, &mut r), &mut r);
         scene.evidence = evidence;
         let run = oracle::calls::call("cancel_run").outcome(&scene).expect("an accepted run");
-        if run.figures[RUN_TAKEN] == 1.0 && run.figures.iter().all(|x| x.is_finite()) && scene.recording.iq.len() < 30_000 {
+        if run.figures[RUN_TAKEN] == 1.0
+            && run.figures.iter().all(|x| x.is_finite())
+            && scene.recording.iq.len() < 30_000
+        {
             for len in [&mut scene.elements_len, &mut scene.fits_len, &mut scene.places_len, &mut scene.work_len] {
                 *len += 3;
             }
@@ -122,7 +126,7 @@ fn one_bit_of_an_answer() {
 #[test]
 fn one_bit_on_a_refusal() {
     let admitted = scene();
-    for question in 1..=7 {
+    for question in 1..=LAST {
         let mut scene = admitted.clone();
         noes::answer_no(&mut scene, question, &mut Random::new(3));
         for call in CALLS {

@@ -200,7 +200,8 @@ mod tests {
     fn a_number_that_is_not_known() {
         assert_eq!(told(0, 1.5), Ok(1.5));
         assert_eq!(told(7, 1.5), Err(Refusal::Given));
-        assert_eq!(told(8, 1.5), Err(Refusal::Unknown(8)));
+        let next = Refusal::ALL.len() as u64 + 1;
+        assert_eq!(told(next, 1.5), Err(Refusal::Unknown(next)));
         assert_eq!(told(u64::MAX, 1.5), Err(Refusal::Unknown(u64::MAX)));
     }
 }

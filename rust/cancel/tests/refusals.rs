@@ -44,7 +44,8 @@ fn numbers_and_sentences() {
         assert_eq!(Refusal::of_number(refusal.number()), Some(*refusal));
         assert!(refusal.to_string().len() > 20);
     }
-    assert_eq!((Refusal::of_number(0), Refusal::of_number(8)), (None, None));
+    let next = Refusal::ALL.len() as u64 + 1;
+    assert_eq!((Refusal::of_number(0), Refusal::of_number(next)), (None, None));
 }
 
 #[test]
