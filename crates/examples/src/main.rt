@@ -1,5 +1,6 @@
 // Holds the recordings of examples/ to the reports that stand beside them, each recording read at once and in pieces.
 // Arguments come in twos: a recording's file, and that of its report.
+use format::Came;
 use format::INPUT;
 use libc::STDOUT_FILENO;
 ghost use Prim.Native.Nat.{_+_, _^_, _<_};
@@ -21,11 +22,11 @@ fn open(k: usize) -> i32 {
 }
 
 // The recording that argument k names, read as the program `tankair` reads its input.
-fn read_input(k: usize, into: &mut [u8; INPUT], piece: usize) -> usize {
+fn read_input(k: usize, into: &mut [u8; INPUT], piece: usize) -> Came {
     let fd = open(k);
-    let n = format::read_recording(fd, into, piece);
+    let came = format::read_recording(fd, into, piece);
     libc::close(fd);
-    n
+    came
 }
 
 // The report that argument k names goes into `into`; answers how many bytes it has there.
@@ -44,14 +45,17 @@ fn name(k: usize) {
     say(&path[..length]);
 }
 
-// The recording that argument k names, read in such pieces, against the stored report.
-fn compare(k: usize, piece: usize, pieces: &[u8], stored: &[u8]) {
+// The recording that argument k names, read in such pieces, against the stored report. What the last read asked for is
+// told too: it shows in what pieces it was read.
+fn compare(k: usize, piece: usize, stored: &[u8]) {
     let mut bytes = [0u8; INPUT];
-    let n = read_input(k, &mut bytes, piece);
+    let came = read_input(k, &mut bytes, piece);
     let mut out = [0u8; report::ROOM];
-    let length = report::report_read(&bytes, n, &mut out);
+    let length = report::report_read(&bytes, came.count, &mut out);
     name(k);
-    say(pieces);
+    say(b" (the last read asked for ");
+    io::print_decimal(STDOUT_FILENO, came.asked as u64);
+    say(b" bytes)");
     if check::same(&out[..length], stored) {
         say(b": its report is as stored\n");
     } else {
@@ -66,9 +70,9 @@ fn compare_pieces(k: usize)
 {
     let mut stored = [0u8; report::ROOM];
     let m = read_stored(k + 1, &mut stored);
-    compare(k, INPUT, b", at once", &stored[..m]);
-    compare(k, 1, b", byte by byte", &stored[..m]);
-    compare(k, 1000, b", by 1,000 bytes", &stored[..m]);
+    compare(k, INPUT, &stored[..m]);
+    compare(k, 1, &stored[..m]);
+    compare(k, 1000, &stored[..m]);
 }
 
 // The program's own name comes first. Where the last recording has no report with it, that report is missing.

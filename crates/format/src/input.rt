@@ -1,9 +1,10 @@
 // A recording as it is read: from an open file, or from standard input.
+use crate::reads::Came;
 use crate::reads::Read;
 use crate::reads::Reading;
-use crate::reads::count;
 use crate::reads::meaning;
 use crate::reads::read_on;
+use crate::reads::what_came;
 ghost use mathlib.Core.Path.{_≡_};
 ghost use mathlib.Core.Bool.{false};
 ghost use Prim.Native.Nat.{_-_, _≤_, min, max};
@@ -25,7 +26,7 @@ fn asked(piece: usize, left: usize) -> usize
     float::least(piece, left)
 }
 
-// Reads a piece at a time, until a read ends it; answers that read, which asked for a piece as every one does.
+// Reads a piece at a time, until a read ends the input; answers that read, which asked for a piece too.
 fn read_to_end(fd: i32, bytes: &mut [u8], piece: usize) -> Read
     requires { ⌜ 1 ≤ length (now bytes) ⌝ }
     ensures { λ r. ⌜ (Made (length (now (bytes .exit))) r) × (r .asked ≡ min (max 1 piece) (length (now (bytes .exit)) - r .there))
@@ -44,12 +45,13 @@ fn read_to_end(fd: i32, bytes: &mut [u8], piece: usize) -> Read
     }
 }
 
-// Reads to the end of the input, or until `bytes` is full, at most `piece` bytes at a time; answers how many came. A
-// read that fails counts as too many, so that no part of a recording is reported as if it were whole.
-pub fn read_recording(fd: i32, bytes: &mut [u8; INPUT], piece: usize) -> usize
-    ensures { λ r. ⌜ Counts r (now (bytes .exit)) ⌝ }
+// Reads to the end of the input, or until `bytes` is full, at most `piece` bytes at a time; answers how many came, and
+// what the last read asked for, so that a test sees that it was a piece. A read that fails counts as too many, so that
+// no part of a recording is reported as if it were whole.
+pub fn read_recording(fd: i32, bytes: &mut [u8; INPUT], piece: usize) -> Came
+    ensures { λ r. ⌜ (Counts (r .count) (now (bytes .exit))) × (r .asked ≡ min (max 1 piece) (INPUT - r .there)) ⌝ }
     ensures { λ r. ⌜ length (now (bytes .exit)) ≡ INPUT ⌝ }
 {
     let last = read_to_end(fd, bytes, piece);
-    count(last, INPUT)
+    what_came(last, INPUT)
 }

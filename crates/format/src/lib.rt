@@ -8,5 +8,6 @@ pub use bytes::bytes_ok;
 pub use bytes::samples;
 pub use input::INPUT;
 pub use input::read_recording;
+pub use reads::Came;
 pub use text::append;
 pub use text::line;

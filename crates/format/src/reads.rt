@@ -12,6 +12,14 @@ pub struct Read {
     answer: isize,
 }
 
+// What came of an input: how many bytes it counts as having, and of the read that ended it how many bytes were there
+// before it and how many it asked for.
+pub struct Came {
+    pub count: usize,
+    pub there: usize,
+    pub asked: usize,
+}
+
 // What a read means for the whole input.
 pub enum Reading {
     Failed,
@@ -57,7 +65,7 @@ pub fn read_on(fd: i32, bytes: &mut [u8], there: usize, asked: usize) -> Read
 }
 
 // How many bytes an input has, by the read that ended it.
-pub fn count(last: Read, room: usize) -> usize
+fn count(last: Read, room: usize) -> usize
     requires { ⌜ Made room last ⌝ }
     ensures { λ r. ⌜ r ≡ countOf room last ⌝ }
 {
@@ -66,5 +74,16 @@ pub fn count(last: Read, room: usize) -> usize
         Reading::Ended => last.there,
         Reading::Full => room,
         Reading::More(_) => room,
+    }
+}
+
+pub fn what_came(last: Read, room: usize) -> Came
+    requires { ⌜ Made room last ⌝ }
+    ensures { λ r. ⌜ (r .count ≡ countOf room last) × (r .there ≡ last .there) × (r .asked ≡ last .asked) ⌝ }
+{
+    Came {
+        count: count(last, room),
+        there: last.there,
+        asked: last.asked,
     }
 }

@@ -15,7 +15,10 @@ returns c =
     let read = c .before .read-to-end in
     let long : length (read .last .1 .0) ≡ INPUT = omega (arith, read .kept) in
     let made : Made INPUT (read .result) = rw long at (read .ensures .0) in
-    (counts _ (read .last .1 .0) (omega (arith, c .count .ensures, count-most INPUT (read .result) made)), long)
+    let came = c .what-came .ensures in (
+      (counts _ (read .last .1 .0) (omega (arith, came .0, count-most INPUT (read .result) made)), omega (arith, came .1, came .2, read .ensures .1)),
+      long,
+    )
 
 pub read-recording-spec : {M : Type 1} → statement M
 read-recording-spec = tie.close (tie.spec (λ c κs. search needs) (λ c κs. search needs) returns)
