@@ -44,8 +44,8 @@
  * logic that has one NaN, and that a NaN keeps its bits as well is not proved but compared. On a 0 all figures are
  * written, and the first places of the lists to be filled, as many as the figures count; what the places after them and
  * the work slice then hold is not said. Recordings and lists that are lent as const are never written, and the buffer
- * only as its call says. A figure that counts is a whole number below 2^53, so that it is exact as a double and
- * converts to uint64_t with nothing lost.
+ * only as its call says. A figure that counts is a whole number below 2^53 (of cancel_fit_elements where fewer than 2^53
+ * elements are given), so that it is exact as a double and converts to uint64_t with nothing lost.
  *
  * cancel_version, cancel_blocks and the functions of numbers at the end refuse nothing and return what they compute.
  *
@@ -78,9 +78,10 @@ extern "C" {
  */
 uint64_t cancel_version(void);
 
-/* Numbers in a record, and in the figures of each call. */
+/* Numbers in a record, in a residual check that is handed in, and in the figures of each call. */
 #define CANCEL_ELEMENT_NUMBERS 4
 #define CANCEL_FIT_NUMBERS 8
+#define CANCEL_CHECK_NUMBERS 5
 #define CANCEL_ROW_FIGURES 3
 #define CANCEL_FIND_FIGURES 4
 #define CANCEL_FIT_FIGURES 1
@@ -326,8 +327,8 @@ enum cancel_clean_figure {
 
 /*
  * Whether a residual check is clean: its edge ratio is at most -7 dB and its interior ratio at most -10 dB. check is a
- * pointer to the five figures of cancel_residual_check, in their order. Of these only the two ratios count; the counts
- * of blocks are not read. A NaN is not clean, -infinity is.
+ * pointer to CANCEL_CHECK_NUMBERS numbers, the first figures of cancel_residual_check. Only the two ratios count; the
+ * counts of blocks are not read. A NaN is not clean, -infinity is.
  */
 uint64_t cancel_clean(const double *check, double *figures);
 

@@ -2,6 +2,7 @@
 //! many figures. A call that the header does not have yet is named.
 
 use oracle::calls::{call, CALLS, FUNCTIONS};
+use oracle::figures::CHECK;
 use oracle::header::{defined, reason, refusal, statements};
 use oracle::questions::{CARRIER, COUNT, GIVEN, LAST, PLACES, RATE, SAMPLE, WORK};
 
@@ -82,6 +83,7 @@ fn figures() {
     ] {
         assert_eq!(defined(constant), Some(call(name).figures as u64), "{constant}");
     }
+    assert_eq!(defined("CANCEL_CHECK_NUMBERS"), Some(CHECK as u64));
 }
 
 /// The proved version of crates/capi is the header's.

@@ -1,5 +1,5 @@
-// How many figures each call answers, and where in them a group starts, in the order of include/cancel.h. What is added
-// to a call's figures stands after those that are there, so that no figure changes its place.
+// How many figures each call answers. What is added to a call's figures stands after those that are there, so that no
+// figure changes its place. Where in them a group starts is said in specs/Places.antt: the code writes each row whole.
 pub const ROW_FIGURES: usize = 3;
 
 pub const FIND_FIGURES: usize = 4;

@@ -50,7 +50,7 @@ impl ResidualCheck {
     }
 }
 
-// Rust: ratio_db, with `nb`'s floor under the lower side: applied here, no number is looked at that is not there.
+// Rust: ratio_db. The floor that the Rust puts under `nb` is put under the lower side here, once it is known to be there.
 fn ratio_db(num: Percentile, den: Percentile) -> f64
     ensures { λ r. ⌜ r ≡ ratioDb num (floored den) ⌝ }
 {

@@ -1,5 +1,5 @@
--- The sections of the work slice: each number, times the number of blocks, is where a section begins (src/sections.rt).
--- Definitions only.
+-- The sections of the work slice: each number, times the number of blocks, is where a section begins or, by its name,
+-- ends (src/sections.rt). Definitions only.
 use Prim.Native.Nat.{ℕ}
 
 -- the numbers of the classes, behind the blocks' means
