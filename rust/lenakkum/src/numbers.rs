@@ -23,3 +23,21 @@ pub fn rounded(x: f64, places: usize) -> String {
 pub fn plain(x: f64) -> String {
     ((x * 1e6).round() / 1e6).to_string()
 }
+
+#[cfg(test)]
+mod tests {
+    use super::*;
+
+    #[test]
+    fn what_is_not_finite_has_its_name() {
+        let numbers = [0.0, -1e300, f64::NAN, f64::INFINITY, f64::NEG_INFINITY];
+        assert_eq!(numbers.map(not_finite), [None, None, Some("nan"), Some("infinity"), Some("-infinity")]);
+        assert_eq!(numbers.map(|x| rounded(x, 1))[2..], ["nan", "infinity", "-infinity"]);
+    }
+
+    #[test]
+    fn rounded_and_plain() {
+        assert_eq!([-0.04, -0.06, 12.345, -12.0].map(|x| rounded(x, 1)), ["0.0", "-0.1", "12.3", "-12.0"]);
+        assert_eq!([0.1 + 0.2, 10.0, 1.0 / 3.0].map(plain), ["0.3", "10", "0.333333"]);
+    }
+}

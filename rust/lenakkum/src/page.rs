@@ -16,7 +16,6 @@ pub struct Section {
     /// In a few words, what came of it.
     brief: String,
     html: String,
-    run: bool,
 }
 
 impl Section {
@@ -37,13 +36,13 @@ impl Section {
             table(&statement(&subject.statement))
         );
         let brief = format!("{}; {}", gaps(f), if f.taken { "taken off" } else { "kept" });
-        Section { title: subject.title(), brief, html, run: true }
+        Section { title: subject.title(), brief, html }
     }
 
     /// Of what was refused, or could not be read.
     pub fn of_problem(title: &str, problem: &Problem) -> Section {
         let html = format!("<p class=\"verdict\">It was not run: {}.</p>\n", escaped(&problem.to_string()));
-        Section { title: title.to_string(), brief: "not run".to_string(), html, run: false }
+        Section { title: title.to_string(), brief: "not run".to_string(), html }
     }
 }
 
@@ -58,11 +57,8 @@ pub fn checked(path: &Path) -> Result<(), Problem> {
     }
 }
 
-/// Writes the page, if anything was run.
+/// Writes the page, also where nothing was run: then it says why, and an older one does not stay in its place.
 pub fn written(path: &Path, sections: &[Section]) -> Result<(), Problem> {
-    if !sections.iter().any(|section| section.run) {
-        return Ok(());
-    }
     Staged::bytes(path, page(sections).as_bytes())?.put()
 }
 
@@ -107,9 +103,10 @@ fn verdict(f: &RunFigures) -> &'static str {
 /// What is in the gaps, in words.
 fn gaps(f: &RunFigures) -> String {
     match f.hypothesis {
+        Hypothesis::OneSignal if f.evidence.gap_blocks == 0 => "no gaps to look at".to_string(),
         Hypothesis::OneSignal => "nothing but noise in the gaps".to_string(),
         Hypothesis::TwoSignalCw { offset_hz } => {
-            format!("a second sender keys in the gaps, {} Hz from the strong one", rounded(offset_hz, 1))
+            format!("a second sender keys in the gaps, {} the strong one", reasons::away(offset_hz))
         }
         Hypothesis::NonCw => "something fills the gaps, as a steady carrier does".to_string(),
         _ => "something is in the gaps, and it cannot be told what".to_string(),
@@ -119,11 +116,22 @@ fn gaps(f: &RunFigures) -> String {
 /// What the gaps' blocks showed.
 fn evidence(f: &RunFigures) -> String {
     let e = &f.evidence;
+    if e.gap_blocks == 0 {
+        return reasons::no_gap_blocks();
+    }
     let carrier = match e.offset_hz {
         None => "no second carrier was seen".to_string(),
-        Some(hz) => format!("a second carrier, {} Hz away, of coherence {}", rounded(hz, 1), rounded(e.coherence, 2)),
+        Some(hz) => format!("a second carrier, {}, of coherence {}", reasons::away(hz), rounded(e.coherence, 2)),
     };
     format!("{} % of {} blocks are hot; {carrier}", rounded(100.0 * e.hot_fraction, 1), e.gap_blocks)
+}
+
+fn carrier(subject: &Subject, f: &RunFigures) -> String {
+    let hint = subject.hint;
+    if reasons::carrier_is_hint(f) {
+        return format!("the hint, {hint} Hz, since nothing was fitted");
+    }
+    format!("{} Hz, with a hint of {hint} Hz", rounded(f.carrier_hz, 2))
 }
 
 type Rows = Vec<(&'static str, String)>;
@@ -143,7 +151,7 @@ fn figures(subject: &Subject, f: &RunFigures) -> Rows {
                 plain(subject.seconds(0.0))
             ),
         ),
-        ("Carrier", format!("{} Hz, with a hint of {} Hz", rounded(f.carrier_hz, 2), subject.hint)),
+        ("Carrier", carrier(subject, f)),
         ("Key-downs", format!("{}: {} listed, {} too short to list", f.key_downs, f.listed, f.short)),
         ("Of those listed", format!("{} were fitted, {} were not", f.fitted, f.skipped)),
         ("On the air", format!("{} s ({} samples), the listed key-downs together", seconds(f.airtime), f.airtime)),

@@ -16,7 +16,7 @@ pub struct Statement {
     pub format: &'static str,
     /// The capture that was chosen.
     pub capture: Option<usize>,
-    /// The first sample that was run, counted from the recording's.
+    /// The first sample that was run, counted from the recording's, or the chosen capture's.
     pub first_sample: u64,
     pub rate_hz: f64,
     pub hint_hz: f64,

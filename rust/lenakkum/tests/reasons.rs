@@ -9,7 +9,12 @@ use std::path::Path;
 
 /// How the words of each condition begin, where it fails.
 const FAILS: [&[&str]; 4] = [
-    &["the gaps hold no second sender: ", "the gaps hold something that does not key: ", "it cannot be told what"],
+    &[
+        "the gaps hold no second sender: ",
+        "there are no gap blocks ",
+        "the gaps hold something that does not key: ",
+        "it cannot be told what",
+    ],
     &[" fitted (at least 20 are needed)"],
     &["the carrier was found at "],
     &["the sender's rest, over the neighbour's level, is "],
@@ -108,11 +113,39 @@ fn in_words_after_the_report_and_on_the_line() {
     assert!(said.contains("taken off, since all four conditions hold:\n") && !said.contains("fails"), "{said}");
     let said = text(&lenakkum(&folder, "run one.cf32 two.cf32 --rate 3000 --hint 700").stdout);
     let lines: Vec<&str> = said.lines().collect();
-    assert!(lines[0].contains("; kept because the gaps hold no second sender: 0 % of the gap blocks are hot (at "));
+    assert!(lines[0].contains("; kept because there are no gap blocks to look for a second sender in: the recording "));
     assert!(lines[0].contains("; 1 key-down was fitted (at least 20 are needed); "), "{}", lines[0]);
     assert!(lines[1].ends_with(&format!("; kept because {far}")), "{}", lines[1]);
     let said = text(&lenakkum(&folder, "run one.cf32 two.cf32 --rate 3000").stdout);
     assert!(!said.lines().last().unwrap().contains("because"), "{said}");
+}
+
+/// A recording of which nothing was fitted, or without a gap block, is not said to hold what was not looked at.
+#[test]
+fn what_was_not_found_is_not_said_to_be_there() {
+    let folder = folder("nothing");
+    fs::write(folder.join("zeros.cf32"), vec![0; 8 * 3_000]).unwrap();
+    fs::write(folder.join("one.cf32"), one()).unwrap();
+    fs::copy(examples().iter().find(|p| p.ends_with("noise.iq")).unwrap(), folder.join("noise.cf32")).unwrap();
+    let explained = |words: &str| text(&lenakkum(&folder, &format!("run {words} --rate 3000 --explain")).stdout);
+    for (words, hint) in [("zeros.cf32", "0.00"), ("noise.cf32", "0.00"), ("zeros.cf32 --hint -41.257", "-41.26")] {
+        let said = explained(words);
+        let carrier = format!("  holds: nothing was fitted, so that the carrier is the hint, {hint} Hz (at most 5 Hz ");
+        assert!(said.contains(&carrier) && !said.contains("was found"), "{words}: {said}");
+        assert!(said.contains("  fails: the gaps hold no second sender: "), "{words}: {said}");
+    }
+    let said = explained("one.cf32");
+    assert!(
+        said.contains("  fails: there are no gap blocks to look for a second sender in: ") && !said.contains("0 %")
+    );
+    assert!(said.contains("  holds: the carrier was found at 0.00 Hz, 0.00 Hz from the hint"), "{said}");
+    lenakkum(&folder, "run zeros.cf32 one.cf32 --rate 3000 --hint 7 --page all.html");
+    let page = fs::read_to_string(folder.join("all.html")).unwrap();
+    let count = |words: &str| page.matches(words).count();
+    // In the table of contents and in the recording's own.
+    assert_eq!((count("nothing but noise in the gaps"), count("no gaps to look at")), (2, 2));
+    assert_eq!(count("<th>Carrier</th><td>the hint, 7 Hz, since nothing was fitted</td>"), 1);
+    assert_eq!(count("<th>Seen in the gaps</th><td>there are no gap blocks to look for a second sender in: "), 1);
 }
 
 #[cfg(feature = "pictures")]
@@ -126,4 +159,9 @@ fn in_the_title_of_a_picture() {
     };
     assert!(drawn("700").contains("kept because the carrier was found at 0.00 Hz, 700.00 Hz from the hint (at most"));
     assert!(!drawn("0").contains("because"));
+    let steady = examples().into_iter().find(|p| p.ends_with("steady_carrier.iq")).unwrap();
+    fs::copy(steady, folder.join("steady.cf32")).unwrap();
+    lenakkum(&folder, "run steady.cf32 --rate 3000 --picture steady.svg");
+    let drawn = fs::read_to_string(folder.join("steady.svg")).unwrap();
+    assert!(drawn.contains("steady.cf32: something fills the gaps, kept   (2048 samples at 3000 a second"));
 }

@@ -91,14 +91,20 @@ fn proxy() -> (u16, Receiver<String>) {
     (port, receive)
 }
 
+/// A browser without a window, and with nothing of its own to do.
+fn chromium(folder: &Path) -> Command {
+    let mut chromium = Command::new("chromium");
+    chromium.args(["--headless", "--no-sandbox", "--disable-gpu", "--no-first-run", "--disable-background-networking"]);
+    chromium.args(["--disable-component-update", "--disable-sync", "--disable-extensions"]);
+    chromium.arg(format!("--user-data-dir={}", folder.join("profile").display()));
+    chromium
+}
+
 /// What a browser makes of a page, and what it asked the world for.
 fn opened(folder: &Path, page: &str) -> (String, Vec<String>) {
     let (port, asked) = proxy();
-    let mut chromium = Command::new("chromium");
-    chromium.args(["--headless", "--no-sandbox", "--disable-gpu", "--no-first-run", "--disable-background-networking"]);
-    chromium.args(["--disable-component-update", "--disable-sync", "--disable-extensions", "--dump-dom"]);
-    chromium.arg(format!("--proxy-server=http://127.0.0.1:{port}"));
-    chromium.arg(format!("--user-data-dir={}", folder.join("profile").display()));
+    let mut chromium = chromium(folder);
+    chromium.args(["--dump-dom", &format!("--proxy-server=http://127.0.0.1:{port}")]);
     chromium.arg(format!("file://{}", folder.join(page).display()));
     let said = chromium.output().expect("chromium was not found (Debian: apt-get install -y chromium)");
     assert!(said.status.success(), "{}", text(&said.stderr));
@@ -139,7 +145,7 @@ fn a_page_says_all_of_it_and_fetches_nothing() {
         "a&amp;&lt;b&gt;.sigmf-meta</h2>",
         "The recording was kept: every sample stays as it was.",
         "<b>fails</b>: 1 key-down was fitted (at least 20 are needed)",
-        "nothing but noise in the gaps",
+        "no gaps to look at",
         "2026-11-16T10:00:00Z",
         "It was not run: wild.cf32: refused (3): a sample is infinite or not a number",
         "It was not run: none.cf32: No such file or directory",
@@ -184,10 +190,39 @@ fn a_page_is_written_whole_or_not_at_all() {
         ("one.cf32 --rate 3000 --page one.pdf", "one.pdf: a page's name ends in .html"),
         ("one.cf32 --rate 3000 --page none/one.html", "none/one.html: there is no such folder"),
         ("one.cf32 --rate 3000 --out x.html --page x.html", "x.html: it would be written twice"),
-        ("none.cf32 --rate 3000 --page none.html", "none.cf32: No such file"),
     ] {
         assert_wrong(&lenakkum(&folder, &format!("run {words}")), line, words);
     }
-    assert_eq!(lenakkum(&folder, "run one.cf32 --rate 100 --page refused.html").status.code(), Some(1));
     assert_eq!(names(&folder), ["one.cf32", "one.html"]);
+}
+
+/// Where nothing could be run the page says so, and no older one stays as if it were of this run.
+#[test]
+fn a_page_of_nothing_that_was_run() {
+    let folder = folder("page_none");
+    fs::write(folder.join("one.cf32"), one()).unwrap();
+    let page = || fs::read_to_string(folder.join("page.html")).unwrap();
+    assert_eq!(lenakkum(&folder, "run one.cf32 --rate 3000 --page page.html").status.code(), Some(0));
+    assert!(page().contains("was kept") && !page().contains("not run"));
+    let said = lenakkum(&folder, "run one.cf32 --rate 100 --page page.html");
+    assert_eq!((said.status.code(), text(&said.stdout)), (Some(1), "(run 1)\n".to_string()));
+    assert!(page().contains("It was not run: one.cf32: refused (1): ") && !page().contains("was kept"));
+    let words = "run none.cf32 --rate 3000 --page page.html";
+    assert_wrong(&lenakkum(&folder, words), "none.cf32: No such file", words);
+    assert!(page().contains("It was not run: none.cf32: No such file"));
+}
+
+/// On paper each recording begins a new sheet.
+#[test]
+fn a_page_is_printed_with_a_sheet_for_each_recording() {
+    let folder = folder("paper");
+    lenakkum(&folder, "run a.cf32 b.cf32 c.cf32 d.cf32 --rate 3000 --page all.html");
+    let mut chromium = chromium(&folder);
+    chromium.arg(format!("--print-to-pdf={}", folder.join("all.pdf").display()));
+    let said = chromium.arg(format!("file://{}", folder.join("all.html").display())).output().unwrap();
+    assert!(said.status.success(), "{}", text(&said.stderr));
+    let printed = String::from_utf8_lossy(&fs::read(folder.join("all.pdf")).unwrap()).into_owned();
+    let count = |kind: &str| printed.matches(kind).count();
+    // The first of the four, each a line or two, stands below the table of all.
+    assert_eq!(count("/Type /Page") - count("/Type /Pages"), 4);
 }

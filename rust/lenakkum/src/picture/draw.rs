@@ -79,7 +79,7 @@ fn draw_title<B: DrawingBackend>(area: &DrawingArea<B, Shift>, shown: &Shown<'_>
     let hypothesis = match f.hypothesis {
         Hypothesis::OneSignal => "one signal".to_string(),
         Hypothesis::TwoSignalCw { offset_hz } => format!("two signals, {offset_hz:+.1} Hz"),
-        Hypothesis::NonCw => "no CW".to_string(),
+        Hypothesis::NonCw => "something fills the gaps".to_string(),
         Hypothesis::Unresolved => "unresolved".to_string(),
         _ => "unknown".to_string(),
     };

@@ -40,6 +40,8 @@ impl NotFinite {
 struct Place {
     rate_hz: f64,
     hint_hz: f64,
+    /// The capture that was chosen. What follows is then counted from its first sample.
+    capture: Option<usize>,
     piece: Option<usize>,
     first_sample: u64,
     start_s: Option<f64>,
@@ -53,6 +55,7 @@ impl Place {
         Place {
             rate_hz: subject.rate,
             hint_hz: subject.hint,
+            capture: subject.statement.capture,
             piece: subject.piece,
             first_sample: subject.first,
             start_s: finite(subject.seconds(0.0)),
