@@ -106,7 +106,7 @@ fn steady_carrier(f: &RunFigures) -> Condition {
     Condition { holds: step <= MAX_CARRIER_STEP_HZ, words }
 }
 
-/// Was nothing fitted, neither at the hint nor after? Had something been fitted at the hint, then the carrier would have
+/// Was nothing fitted, neither at the hint nor after? Had something been fitted at the hint, the carrier would have
 /// moved, or the same would have been fitted again.
 pub fn carrier_is_hint(f: &RunFigures) -> bool {
     f.fitted == 0 && f.carrier_step_hz == 0.0
@@ -193,7 +193,8 @@ mod tests {
     fn each_value_stands_beside_its_limit() {
         let f = figures();
         let two = "the gaps hold a second keyed sender: 40 % of the gap blocks are hot (15 % to 75 % is needed), its \
-                   carrier is 59.5 Hz below (10 to 150 Hz away is needed), its coherence is 0.93 (at least 0.8 is needed)";
+                   carrier is 59.5 Hz below (10 to 150 Hz away is needed), its coherence is 0.93 (at least 0.8 is \
+                   needed)";
         let clean = "the sender's rest, over the neighbour's level, is -8.3 dB at the edges (at most -7 dB is \
                      allowed) and -13.5 dB inside (at most -10 dB is allowed)";
         let expected = [

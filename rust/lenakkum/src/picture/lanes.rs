@@ -89,3 +89,86 @@ fn stretches(answers: impl Iterator<Item = bool>, over: usize) -> impl Iterator<
     }
     out.into_iter()
 }
+
+#[cfg(test)]
+mod tests {
+    use super::*;
+    use cancel::{Complex32, Complex64, ElementFit, KeyDown, KeyedElement, StrongEstimate};
+
+    /// Three listed key-downs: where they start and end, and where they cross the threshold of `ROW`.
+    const LISTED: [KeyDown; 3] = [key(10.25, 30.5, 2, 5), key(100.0, 118.0, 9, 11), key(200.0, 260.75, 13, 16)];
+
+    const fn key(start: f64, end: f64, up: usize, down: usize) -> KeyDown {
+        KeyDown { element: KeyedElement { start, end }, up, down }
+    }
+
+    /// Above the threshold 1 those listed, and from 7 to 8 one that is not.
+    const ROW: [f64; 18] = [0., 0., 2., 2., 1., 0., 0., 2., 0., 2., 2., 0., 0., 2., 2., 2., 0., 0.];
+
+    /// Its figures are counts that are all different; of those listed the second is not fitted.
+    fn lanes(changed: &[usize]) -> Vec<Lane> {
+        let before = [Complex32::new(0.0, 0.0); 40];
+        let mut after = before;
+        changed.iter().for_each(|&i| after[i] = Complex32::new(0.0, -1.0));
+        let mut figures = cancel::run(&mut [Complex32::new(0.0, 0.0); 40], 3_000.0, 0.0).unwrap().figures;
+        (figures.listed, figures.short, figures.fitted, figures.skipped) = (11, 12, 13, 14);
+        (figures.edge, figures.interior, figures.gap, figures.other) = (15, 16, 17, 18);
+        let fit = |i: usize| ElementFit {
+            element: LISTED[i].element,
+            gain: Complex64::new(1.0, 0.0),
+            slope_rad_per_sample: 0.0,
+            ref_sample: 0.0,
+        };
+        let estimate = StrongEstimate {
+            carrier_hz: 0.0,
+            carrier_step_hz: 0.0,
+            fits: vec![fit(0), fit(2)],
+            elements: LISTED.map(|k| k.element).to_vec(),
+        };
+        let subject = Subject {
+            name: String::new(),
+            rate: 3_000.0,
+            before: &before,
+            after: &after,
+            figures,
+            elements: LISTED.to_vec(),
+            estimate,
+        };
+        use BlockClass::{Edge, Gap, Interior, Other};
+        all(&subject, &ROW, Some(1.0), &[Other, Edge, Edge, Interior, Gap, Gap, Gap, Edge, Gap, Other])
+    }
+
+    /// A lane's count and spans.
+    fn lane(lanes: &[Lane], name: &str) -> (Option<usize>, Vec<(f64, f64)>) {
+        let lane = lanes.iter().find(|lane| lane.name == name).unwrap();
+        (lane.count, lane.spans.clone())
+    }
+
+    #[test]
+    fn each_lane_shows_its_own() {
+        let lanes = lanes(&[]);
+        let expected = [
+            ("listed", 11, vec![(10.25, 30.5), (100.0, 118.0), (200.0, 260.75)]),
+            // From the middle of the last window below the threshold to that of the next.
+            ("short", 12, vec![(9.5, 11.5)]),
+            ("fitted", 13, vec![(10.25, 30.5), (200.0, 260.75)]),
+            ("skipped", 14, vec![(100.0, 118.0)]),
+            ("edge", 15, vec![(8.0, 24.0), (56.0, 64.0)]),
+            ("interior", 16, vec![(24.0, 32.0)]),
+            ("gap", 17, vec![(32.0, 56.0), (64.0, 72.0)]),
+            ("other", 18, vec![(0.0, 8.0), (72.0, 80.0)]),
+        ];
+        assert_eq!(lanes.len(), expected.len() + 1);
+        for (name, count, spans) in expected {
+            assert_eq!(lane(&lanes, name), (Some(count), spans), "{name}");
+        }
+        assert_eq!(lane(&lanes, "taken off"), (None, vec![]));
+    }
+
+    #[test]
+    fn what_was_taken_off_is_where_samples_changed() {
+        let taken = |changed: &[usize]| lane(&lanes(changed), "taken off").1;
+        assert_eq!(taken(&[5, 6, 7, 10, 11, 20]), [(5.0, 12.0), (20.0, 21.0)]);
+        assert_eq!(taken(&[5, 9]), [(5.0, 6.0), (9.0, 10.0)]);
+    }
+}

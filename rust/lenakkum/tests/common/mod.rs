@@ -99,6 +99,56 @@ pub fn valley(key_downs: usize, offset_hz: f64, rise: f64) -> Vec<(f64, f64)> {
     (0..2_048).map(|k| sample(k as f64)).collect()
 }
 
+/// Numbers from -1 to 1 without a pattern, the same ones each time.
+pub struct Chance(pub u64);
+
+impl Chance {
+    pub fn next(&mut self) -> f64 {
+        self.0 = self.0.wrapping_mul(6_364_136_223_846_793_005).wrapping_add(1_442_695_040_888_963_407);
+        (self.0 >> 33) as f64 / (1u64 << 30) as f64 - 1.0
+    }
+}
+
+/// What is in the gaps of a strong sender: how far from its carrier, how strong, and whether it keys or is steady.
+#[derive(Clone, Copy)]
+pub struct Other {
+    pub offset_hz: f64,
+    pub level: f64,
+    pub keys: bool,
+}
+
+/// A strong sender near 31 Hz with so many key-downs, some of them too short to be fitted and a few too short to be
+/// listed, and what else is in its gaps, with a little noise: no two of its counts are the same.
+pub fn mixed(rate: f64, key_downs: usize, other: Other) -> Vec<(f64, f64)> {
+    let mut chance = Chance(key_downs as u64);
+    let (mut at, mut strong, mut weak) = (0.01, Vec::new(), Vec::new());
+    for i in 0..key_downs {
+        let seconds = match i % 17 {
+            3 | 8 => 12e-3,
+            14 => 3.5e-3,
+            _ => 30e-3 + 5e-3 * chance.next(),
+        };
+        strong.push((at, at + seconds));
+        at += seconds + 20e-3 + 4e-3 * chance.next();
+        if i % 9 == 4 {
+            weak.extend([(at + 20e-3, at + 90e-3), (at + 130e-3, at + 200e-3)]);
+            at += 220e-3;
+        }
+    }
+    let weak = if other.keys { weak } else { vec![(-1.0, at + 1.0)] };
+    let sample = |k: usize| {
+        let t = k as f64 / rate;
+        let sent = [(1.0, 30.8, &strong), (other.level, 30.8 + other.offset_hz, &weak)];
+        let noise = (2e-3 * chance.next(), 2e-3 * chance.next());
+        sent.iter().fold(noise, |(re, im), (level, hz, marks)| {
+            let key = |&(from, to): &(f64, f64)| ramp(t - from, 5e-3) - ramp(t - to, 5e-3);
+            let (level, angle) = (level * marks.iter().map(key).sum::<f64>(), TAU * hz * t + 0.7);
+            (re + level * angle.cos(), im + level * angle.sin())
+        })
+    };
+    (0..((at + 0.013) * rate) as usize).map(sample).collect()
+}
+
 fn ramp(t: f64, rise: f64) -> f64 {
     if t <= -rise / 2.0 {
         0.0
