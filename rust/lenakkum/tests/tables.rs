@@ -19,7 +19,7 @@ fn recordings(name: &str) -> PathBuf {
 const ALL: &str = "one.cf32 none.cf32 wild.cf32 two.cf32";
 
 /// Columns that are not numbers.
-const WORDS: [&str; 12] = [
+const WORDS: [&str; 13] = [
     "file",
     "problem",
     "clean",
@@ -29,6 +29,7 @@ const WORDS: [&str; 12] = [
     "not_finite",
     "recording_sha256",
     "date",
+    "format",
     "version",
     "commit",
     "library_sha256",
@@ -119,4 +120,29 @@ fn json_has_seconds_beside_positions_and_null_for_what_is_no_number() {
     assert_eq!(lines[0]["residual"]["edge_over_neighbour_db"], Value::Null);
     assert_eq!(lines[0]["not_finite"]["edge_over_neighbour_db"], "infinity");
     assert!(lines[1]["residual"]["edge_over_neighbour_db"].is_f64() && lines[1]["not_finite"] == serde_json::json!({}));
+}
+
+/// Rows of one file are told apart by the capture that was chosen, from whose beginning samples are counted.
+#[test]
+fn captures_have_rows_of_their_own() {
+    let folder = folder("captures");
+    let captures = serde_json::json!([
+        { "core:sample_start": 0, "core:frequency": 7e6 },
+        { "core:sample_start": 300, "core:frequency": 14e6 }
+    ]);
+    sigmf(&folder, "two", serde_json::json!({}), captures, &[one(), two()].concat());
+    for (number, samples) in [("0", "100"), ("1", "1848")] {
+        let words = format!("two.sigmf-meta --capture {number} --start 200samples");
+        let fields = |words: &str| {
+            let (header, rows) = rows(&folder, words);
+            ["capture", "first_sample", "samples", "format"]
+                .map(|name| rows[0][header.iter().position(|n| n == name).unwrap()].clone())
+        };
+        assert_eq!(fields(&format!("{words} --statement")), [number, "200", samples, "cf32_le"]);
+        assert_eq!(fields(&words), [number, "200", samples, ""]);
+        let line = json_lines(&lenakkum(&folder, &format!("run {words} --json --statement"))).remove(0);
+        let number: usize = number.parse().unwrap();
+        assert_eq!((&line["capture"], &line["statement"]["capture"]), (&number.into(), &number.into()));
+        assert_eq!((&line["first_sample"], &line["start_s"]), (&200.into(), &(200.0 / 3e3).into()));
+    }
 }
