@@ -35,11 +35,12 @@ fn written(folder: &Path, file: &str, recording: Vec<(f64, f64)>) -> Vec<Complex
     all.iter().map(|&(re, im)| Complex32::new(re as f32, im as f32)).collect()
 }
 
-/// A recording of each hypothesis; of the last nothing is fitted, and it has no gap blocks.
+/// A recording of each hypothesis, with a second sender on either side; of the last nothing is fitted, and it has no gap blocks.
 fn parts(folder: &Path) -> Vec<Part> {
     let other = |offset_hz: f64, level: f64, keys: bool| Other { offset_hz, level, keys };
     let recordings = [
-        ("two.cf32", mixed(RATE, 62, other(-47.3, 0.15, true))),
+        ("below.cf32", mixed(RATE, 62, other(-47.3, 0.15, true))),
+        ("above.cf32", mixed(RATE, 70, other(47.3, 0.15, true))),
         ("one.cf32", mixed(RATE, 73, other(0.0, 0.0, true))),
         ("steady.cf32", mixed(RATE, 66, other(60.0, 0.03, false))),
         ("near.cf32", mixed(RATE, 81, other(5.0, 0.04, true))),
@@ -78,8 +79,11 @@ fn no_two_figures_are_the_same() {
     let parts = parts(&folder("different"));
     let hypotheses: BTreeSet<&str> = parts.iter().map(|part| hypothesis(&part.run.figures).0).collect();
     assert_eq!(hypotheses, BTreeSet::from(["noncw", "one", "two", "unresolved"]));
-    assert_eq!(parts.iter().map(|part| part.run.figures.taken).collect::<Vec<_>>(), [true, false, false, false, false]);
-    for f in parts[..4].iter().map(|part| &part.run.figures) {
+    assert_eq!(
+        parts.iter().map(|part| part.run.figures.taken).collect::<Vec<_>>(),
+        [true, true, false, false, false, false]
+    );
+    for f in parts[..5].iter().map(|part| &part.run.figures) {
         let keys = [f.samples, f.window, f.key_downs, f.listed, f.short, f.fitted, f.skipped, f.airtime];
         let all: Vec<usize> = keys.into_iter().chain([f.blocks, f.edge, f.interior, f.gap, f.other]).collect();
         assert_eq!(all.iter().collect::<BTreeSet<_>>().len(), all.len(), "{f:?}");
@@ -89,7 +93,7 @@ fn no_two_figures_are_the_same() {
         // Also as they are rounded in words.
         assert_eq!(numbers.map(|x| format!("{x:.2}")).collect::<BTreeSet<_>>().len(), 7, "{f:?}");
     }
-    let f = &parts[4].run.figures;
+    let f = &parts[5].run.figures;
     assert_eq!((f.fitted, f.gap, f.residual.edge_over_neighbour_db), (0, 0, f64::INFINITY));
 }
 
