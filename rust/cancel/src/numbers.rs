@@ -1,6 +1,6 @@
 //! How serde writes an f64: as a number. A format that people read, such as JSON, may have none for what is not finite:
-//! there it is "infinity", "-infinity" or "nan", so that what is read back is what was written. Of a NaN the bits are not
-//! kept there. (The command `lenakkum` uses the same names, in a field of their own, and writes null for the number.)
+//! there it is "infinity", "-infinity" or "nan", so that what is read back is what was written. Of a NaN the bits are
+//! not kept there. (The command `lenakkum` writes null for such a number, and these names in a field of their own.)
 
 use serde::de::{Error, Visitor};
 use serde::{Deserialize, Deserializer, Serialize, Serializer};

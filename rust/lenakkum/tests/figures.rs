@@ -35,7 +35,8 @@ fn written(folder: &Path, file: &str, recording: Vec<(f64, f64)>) -> Vec<Complex
     all.iter().map(|&(re, im)| Complex32::new(re as f32, im as f32)).collect()
 }
 
-/// A recording of each hypothesis, with a second sender on either side; of the last nothing is fitted, and it has no gap blocks.
+/// A recording of each hypothesis, with a second sender on either side; of the last nothing is fitted, and it has no
+/// gap blocks.
 fn parts(folder: &Path) -> Vec<Part> {
     let other = |offset_hz: f64, level: f64, keys: bool| Other { offset_hz, level, keys };
     let recordings = [
