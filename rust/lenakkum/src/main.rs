@@ -22,6 +22,7 @@ mod reasons;
 mod report;
 mod runs;
 mod sigmf;
+mod sound;
 mod statement;
 mod stretches;
 mod tables;

@@ -2,7 +2,7 @@
 
 use crate::numbers;
 use crate::page::Section;
-use crate::problem::Problem;
+use crate::problem::{on_one_line, Problem};
 use crate::statement::Statement;
 use crate::told::Told;
 
@@ -36,12 +36,12 @@ impl Subject {
         Some(&self.statement).filter(|_| self.stated)
     }
 
-    /// Its name, and where it stands if it is a piece.
+    /// Its name, on one line, and where it stands if it is a piece.
     pub fn title(&self) -> String {
-        let place = |sample: usize| numbers::plain(self.seconds(sample as f64));
+        let (name, place) = (on_one_line(&self.name), |sample: usize| numbers::plain(self.seconds(sample as f64)));
         match self.piece {
-            None => self.name.clone(),
-            Some(_) => format!("{} [{} s to {} s]", self.name, place(0), place(self.samples)),
+            None => name,
+            Some(_) => format!("{name} [{} s to {} s]", place(0), place(self.samples)),
         }
     }
 }

@@ -1,5 +1,6 @@
 //! What can be wrong, each in one line.
 
+use crate::reading::MOST;
 use cancel::Refusal;
 use std::fmt;
 use std::process::ExitCode;
@@ -49,21 +50,36 @@ pub fn status(problems: &[Problem]) -> ExitCode {
     ExitCode::from(problems.iter().map(Problem::number).max().unwrap_or(0))
 }
 
-/// What this command has for what is refused, beside what the refusal itself says.
-fn advice(refusal: Refusal) -> &'static str {
+/// What is wrong and what to do, in this command's words where it knows more than the library.
+fn sentence(refusal: Refusal) -> String {
     match refusal {
-        Refusal::Count => " (--start and --length choose a part, --pieces SECONDS runs all of it part by part)",
-        Refusal::Carrier => " (--hint HZ)",
-        _ => "",
+        // Files of half samples and empty ones do not come so far.
+        Refusal::Count => format!(
+            "it has more than the {MOST} samples that are run at once: --start and --length choose a part, --pieces \
+             SECONDS runs all of it part by part"
+        ),
+        Refusal::Carrier => format!("{refusal} (--hint HZ)"),
+        _ => refusal.to_string(),
     }
+}
+
+/// A text that stays on its line and does nothing to a terminal, whatever a file's name or metadata have: control
+/// characters, line ends and what turns the direction of writing are shown by their numbers.
+pub fn on_one_line(text: &str) -> String {
+    let shown = |c: char| match c {
+        '\u{2028}'..='\u{202e}' | '\u{2066}'..='\u{2069}' => c.escape_default().to_string(),
+        c if c.is_control() => c.escape_default().to_string(),
+        c => c.to_string(),
+    };
+    text.chars().map(shown).collect()
 }
 
 impl fmt::Display for Problem {
     fn fmt(&self, f: &mut fmt::Formatter) -> fmt::Result {
         match self {
-            Problem::Wrong(line) => f.write_str(line),
+            Problem::Wrong(line) => f.write_str(&on_one_line(line)),
             Problem::Refused(name, refusal) => {
-                write!(f, "{name}: refused ({}): {refusal}{}", refusal.number(), advice(*refusal))
+                write!(f, "{}: refused ({}): {}", on_one_line(name), refusal.number(), sentence(*refusal))
             }
         }
     }

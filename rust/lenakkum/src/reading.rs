@@ -11,7 +11,7 @@ use num_complex::Complex32;
 use std::collections::VecDeque;
 use std::fs::{self, File};
 use std::io::{self, Read, Seek, SeekFrom};
-use std::path::Path;
+use std::path::{Path, PathBuf};
 use tempfile::SpooledTempFile;
 
 /// The most samples that are run at once.
@@ -58,6 +58,17 @@ pub fn is_standard(path: &Path) -> bool {
     path == Path::new("-")
 }
 
+/// The files that are read of a recording, as far as that can be told.
+pub fn files(path: &Path) -> Vec<PathBuf> {
+    let pair = match sigmf::pair(path) {
+        None => return vec![path.to_path_buf()],
+        Some(pair) => pair,
+    };
+    let metadata = fs::read(&pair.meta).ok().and_then(|text| Metadata::parse("", &text).ok());
+    let named = metadata.and_then(|metadata| Some(pair.meta.with_file_name(metadata.dataset().ok()??)));
+    [pair.data, pair.meta].into_iter().chain(named).collect()
+}
+
 impl Source {
     /// The recording of this name: `-` is standard input.
     pub fn open(path: &Path, how: &Reading) -> Result<Source, Problem> {
@@ -92,7 +103,7 @@ impl Source {
     ) -> Result<Source, Problem> {
         let (rate, datatype) = (metadata.rate(how.rate)?, metadata.datatype(how.datatype)?);
         let (ahead, told) = metadata.layout(data, datatype.size(), how.capture)?;
-        if let Some(written) = metadata.sha512() {
+        if let Some(written) = metadata.sha512()? {
             stretches::same_sha512(&name, &mut *file, data, written)?;
         }
         let sha256 = digest(&name, &mut *file, data, how)?;
@@ -117,7 +128,7 @@ impl Source {
             if regular { Bytes::of_file(file) } else { Ok(Bytes::Stream(Box::new(file))) }.map_err(wrong)?
         };
         let datatype = how.datatype.map_or_else(|| unnamed(path), Ok)?;
-        content::checked(&name, &bytes.first(content::LOOKED_AT).map_err(wrong)?, datatype)?;
+        content::checked(path, &bytes.first(content::LOOKED_AT).map_err(wrong)?, datatype)?;
         let rate = how.rate;
         let rate = rate.ok_or_else(|| Problem::with(&name, "--rate HZ is needed: the file does not say its rate"))?;
         if how.capture.is_some() {
@@ -127,10 +138,14 @@ impl Source {
         Ok(Source { name, rate, sha256, told: Told::default(), datatype, capture: None, bytes, read: 0 })
     }
 
-    /// Stops at what is no recording.
+    /// Stops at what is no recording, though metadata describe it as one.
     fn look(&mut self) -> Result<(), Problem> {
         let first = self.bytes.first(content::LOOKED_AT).map_err(|e| Problem::with(&self.name, e))?;
-        content::checked(&self.name, &first, self.datatype)
+        let kind = content::kind(&first, !self.datatype.is_of_bytes());
+        kind.map_or(Ok(()), |kind| {
+            let why = "SigMF's are bare samples, after core:header_bytes if anything stands before them";
+            Err(Problem::with(&self.name, format!("its file of samples is {}: {why}", kind.what())))
+        })
     }
 
     /// Passes over so many samples, or fewer if there are not so many; how many.
@@ -148,13 +163,21 @@ impl Source {
         let read = self.bytes.by_ref().take((most * size) as u64).read_to_end(&mut bytes);
         self.read += read.map_err(|e| Problem::with(&self.name, e))? as u64;
         if bytes.len() % size != 0 {
-            let (all, name) = (self.read, self.datatype.name());
-            let why =
-                format!("its {all} bytes are not a whole number of samples ({name}: {size} bytes each): see that it");
-            let why = format!("{why} is whole and of that type (--format names another)");
-            return Err(Problem::with(&self.name, why));
+            return Err(self.half(size));
         }
         Ok(self.datatype.samples(&bytes))
+    }
+
+    /// What is wrong where the last sample is not whole.
+    fn half(&self, size: usize) -> Problem {
+        let (all, name, bare) = (self.read, self.datatype.name(), self.told.global.is_empty());
+        let see = if bare {
+            "it is whole and of that type (--format names another)"
+        } else {
+            "its file of samples is whole, and core:datatype, core:header_bytes and core:trailing_bytes are right"
+        };
+        let why = format!("its {all} bytes are not a whole number of samples ({name}: {size} bytes each)");
+        Problem::with(&self.name, format!("{why}: see that {see}"))
     }
 }
 

@@ -77,12 +77,16 @@ impl Metadata {
         let fields = capture.as_object().ok_or_else(|| wrong("it is not an object".to_string()))?;
         let whole = |name| whole(fields, name).map_err(wrong);
         let start = whole("core:sample_start")?.unwrap_or(offset);
+        let date = fields.get("core:datetime").and_then(Value::as_str).map(str::to_string);
+        if date.iter().any(|date| date.contains(char::is_control)) {
+            return Err(wrong("core:datetime is not a date".to_string()));
+        }
         Ok(Capture {
             start: start.checked_sub(offset).ok_or_else(|| wrong("it begins before core:offset".to_string()))?,
             header_bytes: whole("core:header_bytes")?.unwrap_or(0),
             global_index: whole("core:global_index")?,
             frequency: fields.get("core:frequency").and_then(Value::as_f64),
-            date: fields.get("core:datetime").and_then(Value::as_str).map(str::to_string),
+            date,
         })
     }
 
@@ -130,8 +134,12 @@ impl Metadata {
     }
 
     /// The digest that the file of samples is to have.
-    pub fn sha512(&self) -> Option<&str> {
-        self.global.get("core:sha512").and_then(Value::as_str)
+    pub fn sha512(&self) -> Result<Option<&str>, Problem> {
+        match self.global.get("core:sha512").map(Value::as_str) {
+            None => Ok(None),
+            Some(Some(sum)) => Ok(Some(sum)),
+            Some(None) => Err(self.wrong("core:sha512 is not a text, so that the samples cannot be checked by it")),
+        }
     }
 
     /// Have the samples a head of their own, so that the file is of another kind than bare samples?
@@ -192,11 +200,10 @@ impl Metadata {
         if self.captures.windows(2).any(|two| two[0].frequency != two[1].frequency) {
             return Err(self.wrong(format!("it has {count} captures at different frequencies: {which}")));
         }
-        let gap = |two: &[Capture]| match (two[0].global_index, two[1].global_index) {
-            (Some(a), Some(b)) => b.checked_sub(a) != Some(two[1].start - two[0].start),
-            _ => false,
-        };
-        if self.captures.windows(2).any(gap) {
+        // Those without an index stand between others that have one.
+        let indexed = self.captures.iter().filter_map(|c| Some((c.start, c.global_index?)));
+        let indexed: Vec<(u64, u64)> = indexed.collect();
+        if indexed.windows(2).any(|two| two[1].1.checked_sub(two[0].1) != Some(two[1].0 - two[0].0)) {
             return Err(self.wrong(format!("samples are missing between its {count} captures: {which}")));
         }
         Ok(())

@@ -240,41 +240,6 @@ fn archives_are_read() {
     }
 }
 
-/// What is no recording is told by its content, and what it says to do is done.
-#[test]
-fn what_is_no_recording() {
-    let folder = folder("content");
-    fs::write(folder.join("two.cf32"), two()).unwrap();
-    let made = bash(
-        &folder,
-        "sox -t f32 -r 3000 -c 2 two.cf32 -e float -b 32 'the tank.wav' && tar -cf tank.tar two.cf32 && \
-         gzip -k two.cf32 && echo 'time, volume' >herd.cf32 && echo '{}' >meta.cf32",
-    );
-    assert_eq!(made.status.code(), Some(0), "{}", text(&made.stderr));
-    let said = bash(&folder, "lenakkum run 'the tank.wav'");
-    assert_wrong(&said, "the tank.wav: it is a wav sound file", "wav");
-    let advice = text(&said.stderr).split('`').nth(1).unwrap().to_string();
-    assert_eq!(advice, "sox 'the tank.wav' -t f32 -c 2 - | lenakkum run - --rate 3000");
-    let said = bash(&folder, &advice);
-    assert!(text(&said.stdout).ends_with("(hypothesis two)\n(buffer taken))\n"), "{}", text(&said.stderr));
-    let said = bash(&folder, "cat 'the tank.wav' | lenakkum run - --rate 3000 --format ci16");
-    assert_wrong(&said, "standard input: it is a wav sound file", "wav from standard input");
-    let said = bash(&folder, "lenakkum run two.cf32.gz");
-    assert_wrong(&said, "it is compressed: `zcat two.cf32.gz | lenakkum run - --rate HZ`", "gzip");
-    let said = bash(&folder, "zcat two.cf32.gz | lenakkum run - --rate 3000");
-    assert!(text(&said.stdout).ends_with("(buffer taken))\n"));
-    for (file, words) in [
-        (
-            "tank.tar",
-            "tank.tar: it is a tar archive: one of SigMF has a name that ends in .sigmf, else `tar -xf tank.tar`",
-        ),
-        ("herd.cf32", "herd.cf32: it is text, and a recording is binary"),
-        ("meta.cf32", "meta.cf32: it is JSON and no samples"),
-    ] {
-        assert_wrong(&lenakkum(&folder, &format!("run {file} --rate 3000")), words, file);
-    }
-}
-
 #[test]
 fn a_pair_that_is_written_keeps_what_is_known() {
     let folder = folder("kept");
