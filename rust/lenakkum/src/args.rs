@@ -4,13 +4,14 @@ use crate::datatype::Datatype;
 use crate::names;
 use crate::parts::{Choice, Extent};
 use crate::problem::Problem;
-use crate::reading::Reading;
+use crate::reading::{self, Reading};
 use crate::statement::VERSION;
 use crate::writing;
 use cancel::LIBRARY;
 use clap::error::ErrorKind;
 use clap::{Parser, Subcommand};
 use std::collections::BTreeSet;
+use std::fs;
 use std::path::{Path, PathBuf};
 
 /// What the command line asks for.
@@ -22,6 +23,7 @@ pub enum Wanted {
 
 #[derive(Parser)]
 #[command(name = "lenakkum", version = version(), about = "Takes a strong keyed sender off recordings")]
+#[command(after_help = STATUSES)]
 struct Line {
     #[command(subcommand)]
     word: Word,
@@ -32,8 +34,16 @@ enum Word {
     Run(Run),
 }
 
+/// What a status means, for who asks for help.
+const STATUSES: &str = "\
+Status:
+  0  every recording was run
+  1  a recording was refused: its report is (run N), and a line says why
+  2  the command line, a file or an output was wrong: a line says what";
+
 /// Runs recordings: finds the strong sender, decides what else is in its gaps, takes it off where the rules allow it
 #[derive(clap::Args)]
+#[command(after_help = STATUSES)]
 pub struct Run {
     /// Recordings: SigMF (.sigmf-meta, .sigmf-data or an archive .sigmf), bare samples, or - for standard input
     #[arg(value_name = "FILE", required = true)]
@@ -85,6 +95,9 @@ pub struct Run {
     /// Add to each report the recording's digest and date, rate and hint, the command's version, the library's commit
     #[arg(long)]
     pub statement: bool,
+    /// The files that are read, by their full names, where others are written.
+    #[arg(skip)]
+    inputs: BTreeSet<PathBuf>,
 }
 
 /// How a run is reported.
@@ -150,8 +163,11 @@ impl Run {
         Choice { start: self.start, length: self.length, pieces: self.pieces }
     }
 
-    /// What is wrong with the files that it would write.
-    fn checked(self) -> Result<Run, Problem> {
+    /// What is wrong with the files that it would read and write.
+    fn checked(mut self) -> Result<Run, Problem> {
+        if self.files.iter().filter(|path| reading::is_standard(path)).count() > 1 {
+            return Err(Problem::with("-", "it is there twice, and standard input can be read once"));
+        }
         if self.to_standard_output() && self.several() {
             return Err(Problem::with("--out -", "it is for one recording, and there are several"));
         }
@@ -168,7 +184,11 @@ impl Run {
             crate::page::checked(path)?;
         }
         self.once()?;
+        if self.writes() {
+            self.inputs = self.files.iter().flat_map(|path| reading::files(path)).flat_map(fs::canonicalize).collect();
+        }
         self.nothing_lost()?;
+        self.page.as_ref().map_or(Ok(()), |page| writing::no_input(page, &self.inputs))?;
         Ok(self)
     }
 
@@ -189,16 +209,25 @@ impl Run {
         Ok(())
     }
 
-    /// No recording that is there is to be replaced, unless that is said. Pieces are looked at one by one.
+    /// No recording that is there is to be replaced, unless that is said.
     fn nothing_lost(&self) -> Result<(), Problem> {
-        match self.out_file() {
-            Some(out) if !self.force && self.pieces.is_none() => {
-                self.files.iter().enumerate().try_for_each(|(i, path)| {
-                    writing::nothing_lost(&names::named(out, names::Of { path, number: i + 1, piece: 1 }), &self.files)
-                })
+        self.files.iter().enumerate().try_for_each(|(i, path)| {
+            let of = names::Of { path, number: i + 1, piece: 1 };
+            self.out_file().map_or(Ok(()), |out| writing::truly_named(&names::named(out, of)))?;
+            // Pieces are looked at one by one.
+            if self.pieces.is_none() {
+                self.may_be_written(of)?;
             }
-            _ => Ok(()),
+            Ok(())
+        })
+    }
+
+    /// May these files be written, seeing what is there?
+    pub fn may_be_written(&self, of: names::Of<'_>) -> Result<(), Problem> {
+        if let Some(out) = self.out_file().filter(|_| !self.force) {
+            writing::nothing_lost(&names::named(out, of), &self.inputs)?;
         }
+        self.picture_file().map_or(Ok(()), |picture| writing::no_input(&names::named(picture, of), &self.inputs))
     }
 }
 

@@ -142,12 +142,10 @@ fn written(
     ran: &Ran<'_>,
     of: names::Of<'_>,
 ) -> Result<(), Problem> {
+    args.may_be_written(of)?;
     let mut staged = Vec::new();
     if let Some(out) = args.out_file() {
         let out = names::named(out, of);
-        if !args.force {
-            writing::nothing_lost(&out, &args.files)?;
-        }
         let key_downs: Vec<KeyDown> = ran.elements().collect();
         staged.extend(Staged::recording(&out, subject, after, &key_downs)?);
     }

@@ -1,11 +1,14 @@
 //! Files that are written whole or not at all.
 
+use crate::archive;
+use crate::datatype::Datatype;
 use crate::outcome::Subject;
 use crate::problem::Problem;
 use crate::sigmf;
 use cancel::KeyDown;
 use num_complex::Complex32;
 use sha2::{Digest, Sha512};
+use std::collections::BTreeSet;
 use std::fs::{self, File};
 use std::io::Write;
 use std::path::{Path, PathBuf};
@@ -86,17 +89,46 @@ pub fn files(path: &Path) -> Vec<PathBuf> {
     sigmf::pair(path).map_or_else(|| vec![path.to_path_buf()], |pair| vec![pair.data, pair.meta])
 }
 
+/// Stops at a name that says of f32 pairs that they are something else, for it would be read so.
+pub fn truly_named(path: &Path) -> Result<(), Problem> {
+    let wrong = |why: String| Err(Problem::with(path.display(), why));
+    if archive::is_archive(path) {
+        let pair = path.with_extension("sigmf-meta");
+        return wrong(format!("an archive is not written: {} writes a SigMF pair", pair.display()));
+    }
+    match path.extension().and_then(|e| Datatype::of_ending(e.to_str()?)) {
+        None | Some("cf32") => Ok(()),
+        Some(kind) => {
+            let right = path.with_extension("cf32");
+            wrong(format!("by its name it is of type {kind}, and cf32 is written: name it {}", right.display()))
+        }
+    }
+}
+
 /// Stops at a recording's name where a file is already, one that is run above all.
-pub fn nothing_lost(path: &Path, inputs: &[PathBuf]) -> Result<(), Problem> {
-    for file in files(path) {
-        let there = match fs::canonicalize(&file) {
-            Ok(there) if there.is_file() => there,
-            // What is no file is complained of where it is written.
-            _ => continue,
-        };
-        let is_input = |input: &PathBuf| files(input).iter().any(|f| fs::canonicalize(f).map_or(false, |f| f == there));
-        let what = if inputs.iter().any(is_input) { "it is the recording itself" } else { "it is there already" };
-        return Err(Problem::with(file.display(), format!("{what}: --force replaces it")));
+pub fn nothing_lost(path: &Path, inputs: &BTreeSet<PathBuf>) -> Result<(), Problem> {
+    // What is no file is complained of where it is written.
+    match files(path).into_iter().find(|file| file.is_file()) {
+        None => Ok(()),
+        Some(file) => {
+            let what = if is_input(&file, inputs) { "it is the recording itself" } else { "it is there already" };
+            Err(Problem::with(file.display(), format!("{what}: --force replaces it")))
+        }
+    }
+}
+
+/// Stops where a picture or a page would take a recording's place: that is never meant.
+pub fn no_input(path: &Path, inputs: &BTreeSet<PathBuf>) -> Result<(), Problem> {
+    if is_input(path, inputs) {
+        return Err(Problem::with(
+            path.display(),
+            "it is the recording itself, and is not replaced: name another file",
+        ));
     }
     Ok(())
+}
+
+/// Is this file one of those that are read?
+fn is_input(file: &Path, inputs: &BTreeSet<PathBuf>) -> bool {
+    fs::canonicalize(file).map_or(false, |there| inputs.contains(&there))
 }

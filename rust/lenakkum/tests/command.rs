@@ -51,6 +51,18 @@ fn version_and_statement() {
 }
 
 #[test]
+fn help_has_the_statuses() {
+    for words in ["--help", "run --help", "help run"] {
+        let said = lenakkum(&folder("help"), words);
+        let help = text(&said.stdout);
+        assert_eq!(said.status.code(), Some(0));
+        let status = help.split("\nStatus:\n").nth(1).unwrap();
+        let numbers: Vec<&str> = status.lines().map(|line| line.split_whitespace().next().unwrap()).collect();
+        assert_eq!(numbers, ["0", "1", "2"], "{help}");
+    }
+}
+
+#[test]
 fn several_files() {
     let folder = folder("several");
     fs::write(folder.join("one.cf32"), one()).unwrap();
@@ -70,11 +82,17 @@ fn refused() {
     let folder = folder("refused");
     fs::write(folder.join("one.cf32"), one()).unwrap();
     fs::write(folder.join("long.cf32"), vec![0; 8 * ((1 << 20) + 5) + 3]).unwrap();
-    let cases = [("one.cf32 --rate 100", 1), ("long.cf32 --rate 3000", 2), ("one.cf32 --rate 3000 --hint -1501", 4)];
-    for (words, number) in cases {
+    let cases = [
+        ("one.cf32 --rate 100", 1, "or resample it\n"),
+        ("long.cf32 --rate 3000", 2, "--pieces SECONDS runs all of it part by part\n"),
+        ("one.cf32 --rate 3000 --hint -1501", 4, "give it in Hz from the recording's centre (--hint HZ)\n"),
+    ];
+    for (words, number, end) in cases {
         let said = lenakkum(&folder, &format!("run {words} --out left.cf32"));
         assert_eq!((said.status.code(), text(&said.stdout)), (Some(1), format!("(run {number})\n")), "{words}");
-        assert_eq!(text(&said.stderr).lines().count(), 1);
+        let line = text(&said.stderr);
+        assert!(line.lines().count() == 1 && line.contains(&format!(": refused ({number}): ")), "{line}");
+        assert!(line.ends_with(end), "{line}");
     }
     assert_eq!(names(&folder), ["long.cf32", "one.cf32"]);
 }
@@ -103,6 +121,8 @@ fn wrong_input() {
         ("run one.cf32 --rate 3000 --out none/left.cf32", "none/left.cf32: No such file"),
         ("run one.cf32 one.cf32 --rate 3000 --out left.cf32", "--out: there are several recordings"),
         ("run one.cf32 --rate 3000 --loud", "'--loud'"),
+        ("run - - --rate 3000", "-: it is there twice, and standard input can be read once"),
+        ("run - one.cf32 ./one.cf32 - --rate 3000", "-: it is there twice"),
         ("run", "<FILE>"),
         ("walk", "'walk'"),
         ("", "`run` is known"),

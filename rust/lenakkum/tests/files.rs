@@ -65,6 +65,33 @@ fn every_complex_type_is_read_to_full_scale_1() {
     }
 }
 
+/// Numbers that an f32 cannot hold, or only after they were brought to full scale: each goes to the nearest, ties to
+/// even.
+#[test]
+fn numbers_are_rounded_to_the_nearest() {
+    let folder = folder("rounded");
+    let (half, step) = (2_f64.powi(-24), 2_f32.powi(-23));
+    let cases = [
+        ("cf64", (1.0 + 1.5 * half).to_le_bytes().to_vec(), 1.0 + step),
+        ("cf64", (-1.0 - 1.5 * half).to_le_bytes().to_vec(), -1.0 - step),
+        ("cf64", (1.0 + half).to_le_bytes().to_vec(), 1.0),
+        ("cf64", (1.0 + 3.0 * half).to_le_bytes().to_vec(), 1.0 + 2.0 * step),
+        ("cf64", (1.0 + 0.9 * half).to_le_bytes().to_vec(), 1.0),
+        // The smallest step off the middle, and the largest number.
+        ("cu32", 2_147_483_649_u32.to_le_bytes().to_vec(), 2_f32.powi(-31)),
+        ("cu32", 2_147_483_647_u32.to_le_bytes().to_vec(), -(2_f32.powi(-31))),
+        ("cu32", u32::MAX.to_le_bytes().to_vec(), 1.0),
+        ("ci32", 1_i32.to_le_bytes().to_vec(), 2_f32.powi(-31)),
+        ("ci32", 16_777_217_i32.to_le_bytes().to_vec(), 2_f32.powi(-7)),
+        ("ci32", 16_777_219_i32.to_le_bytes().to_vec(), 16_777_220.0 * 2_f32.powi(-31)),
+    ];
+    for (kind, part, expected) in cases {
+        fs::write(folder.join("part.iq"), [&part[..], &part].concat()).unwrap();
+        let read = as_read(&folder, &format!("part.iq --rate 3000 --format {kind}"));
+        assert_eq!(read, [expected.to_le_bytes(), expected.to_le_bytes()].concat(), "{kind} {part:?}");
+    }
+}
+
 /// Samples are not taken for f32 where the file's name speaks of others.
 #[test]
 fn endings_that_name_a_type() {
@@ -136,8 +163,37 @@ fn captures_at_different_frequencies_are_run_one_at_a_time() {
     ]);
     sigmf(&folder, "gap", json!({}), captures, &data);
     assert_wrong(&lenakkum(&folder, "run gap.sigmf-meta"), "samples are missing between its 2 captures", "gap");
+    // A capture without an index between two that have one hides nothing.
+    for (last, whole) in [(102, true), (107, false), (101, false), (99, false)] {
+        let captures = json!([
+            { "core:sample_start": 0, "core:global_index": 100 },
+            { "core:sample_start": 1 },
+            { "core:sample_start": 2, "core:global_index": last },
+        ]);
+        sigmf(&folder, "between", json!({}), captures, &data);
+        if whole {
+            assert_eq!(as_read(&folder, "between.sigmf-meta"), data);
+        } else {
+            let said = lenakkum(&folder, "run between.sigmf-meta");
+            assert_wrong(&said, "samples are missing between its 3 captures: --capture N", "between");
+        }
+    }
     fs::write(folder.join("bare.cf32"), &data).unwrap();
     assert_wrong(&lenakkum(&folder, "run bare.cf32 --rate 3000 --capture 0"), "--capture is for files with", "bare");
+}
+
+/// Where the samples are the later ones of a longer recording, captures count from its beginning.
+#[test]
+fn captures_count_from_the_offset() {
+    let folder = folder("offset");
+    let data = bytes([(0.5, 0.25), (0.125, 1.0), (0.75, 0.0)]);
+    let captures = |first: u64| json!([{ "core:sample_start": first }, { "core:sample_start": first + 2 }]);
+    sigmf(&folder, "later", json!({ "core:offset": 1_000 }), captures(1_000), &data);
+    assert_eq!(as_read(&folder, "later.sigmf-meta"), data);
+    assert_eq!(as_read(&folder, "later.sigmf-meta --capture 0"), &data[..16]);
+    assert_eq!(as_read(&folder, "later.sigmf-meta --capture 1"), &data[16..]);
+    sigmf(&folder, "before", json!({ "core:offset": 1_000 }), captures(999), &data);
+    assert_wrong(&lenakkum(&folder, "run before.sigmf-meta"), "it begins before core:offset", "before");
 }
 
 #[test]
@@ -148,6 +204,10 @@ fn the_digest_of_the_samples_is_checked() {
     assert_eq!(text(&lenakkum(&folder, "run right.sigmf-meta").stdout), ONE);
     sigmf(&folder, "wrong", json!({ "core:sha512": sum }), json!([]), &two());
     assert_wrong(&lenakkum(&folder, "run wrong.sigmf-data"), "SHA-512 is another than core:sha512 says", "wrong");
+    for sum in [json!(7), json!(null), json!([sum])] {
+        sigmf(&folder, "none", json!({ "core:sha512": sum }), json!([]), &one());
+        assert_wrong(&lenakkum(&folder, "run none.sigmf-meta"), "core:sha512 is not a text", "no text");
+    }
 }
 
 #[test]
@@ -174,6 +234,20 @@ fn the_file_of_samples_may_have_another_name() {
     assert_wrong(&lenakkum(&folder, "run one.sigmf-data"), "its samples are in another file: tank 7.raw", "data");
     sigmf(&folder, "only", json!({ "core:metadata_only": true }), json!([]), &one());
     assert_wrong(&lenakkum(&folder, "run only.sigmf-meta"), "it is metadata only", "only");
+}
+
+/// A type on the command line is no way out where metadata say one.
+#[test]
+fn half_a_sample() {
+    let folder = folder("half");
+    fs::write(folder.join("half.cf32"), &one()[..13]).unwrap();
+    let words = "its 13 bytes are not a whole number of samples (cf32_le: 8 bytes each): see that";
+    let said = lenakkum(&folder, "run half.cf32 --rate 3000");
+    assert_wrong(&said, &format!("{words} it is whole and of that type (--format names another)"), "bare");
+    sigmf(&folder, "half", json!({}), json!([]), &one()[..13]);
+    let said = lenakkum(&folder, "run half.sigmf-meta");
+    assert_wrong(&said, &format!("{words} its file of samples is whole, and core:datatype, "), "SigMF");
+    assert!(!text(&said.stderr).contains("--format"));
 }
 
 #[test]
@@ -230,11 +304,19 @@ fn archives_are_read() {
     archive(&folder.join("none.sigmf"), &[data]);
     archive(&folder.join("half.sigmf"), &[("tank.sigmf-meta", &meta)]);
     fs::write(folder.join("no.sigmf"), two()).unwrap();
+    let mut whole = fs::read(folder.join("tank.sigmf")).unwrap();
+    archive(&folder.join("cut.sigmf"), &[("tank.sigmf-meta", &meta), ("tank.sigmf-data", &one())]);
+    fs::OpenOptions::new().write(true).open(folder.join("cut.sigmf")).unwrap().set_len(2_000).unwrap();
+    // The head of the second file, after the first and its own head.
+    whole[512 + (one().len() + 511) / 512 * 512] ^= 7;
+    fs::write(folder.join("bent.sigmf"), whole).unwrap();
     for (file, words) in [
         ("two.sigmf", "it has 2 recordings: `tar -xf` unpacks them"),
         ("none.sigmf", "there are no metadata (.sigmf-meta) in the archive"),
         ("half.sigmf", "there are no samples (tank.sigmf-data) in the archive"),
         ("no.sigmf", "it is not a tar archive"),
+        ("cut.sigmf", "its tar archive is damaged or cut: see that it was copied whole"),
+        ("bent.sigmf", "its tar archive is damaged or cut: see that it was copied whole"),
     ] {
         assert_wrong(&lenakkum(&folder, &format!("run {file}")), words, file);
     }
@@ -243,17 +325,24 @@ fn archives_are_read() {
 #[test]
 fn a_pair_that_is_written_keeps_what_is_known() {
     let folder = folder("kept");
-    let global = json!({ "core:description": "mast 3", "core:author": "Ada", "core:recorder": "rx" });
+    let described = json!({
+        "core:description": "mast 3",
+        "core:author": "Ada",
+        "core:license": "https://creativecommons.org/licenses/by/4.0/",
+        "core:hw": "a loop and a receiver",
+        "core:geolocation": { "type": "Point", "coordinates": [13.4, 52.5, 34] },
+    });
+    let mut global = described.clone();
+    global["core:recorder"] = "rx".into();
     let captures =
         json!([{ "core:sample_start": 0, "core:frequency": 7.03e6, "core:datetime": "2026-11-16T10:00:00Z" }]);
     sigmf(&folder, "two", global, captures, &[two(), two()].concat());
     let said = lenakkum(&folder, "run two.sigmf-meta --start 2048samples --out left.sigmf-meta");
     assert!(text(&said.stdout).ends_with("(buffer taken))\n"), "{}", text(&said.stderr));
     let meta: Value = serde_json::from_slice(&fs::read(folder.join("left.sigmf-meta")).unwrap()).unwrap();
-    assert_eq!(
-        (&meta["global"]["core:description"], &meta["global"]["core:author"]),
-        (&"mast 3".into(), &"Ada".into())
-    );
+    for (name, value) in described.as_object().unwrap() {
+        assert_eq!(&meta["global"][name], value, "{name}");
+    }
     assert_eq!(meta["global"]["core:recorder"], Value::Null);
     // 2,048 samples later.
     let capture = &meta["captures"][0];
@@ -273,4 +362,37 @@ fn a_pair_that_is_written_keeps_what_is_known() {
     assert!(text(&said.stdout).starts_with("(run 0\n(size 2048 8 256)\n"), "{}", text(&said.stderr));
     fs::write(folder.join("left.sigmf-data"), two()).unwrap();
     assert_wrong(&lenakkum(&folder, "run left.sigmf-data"), "core:sha512", "changed");
+}
+
+/// Each capture that has samples in what is written, with the date of its first of them.
+#[test]
+fn a_pair_that_is_written_keeps_its_captures() {
+    let folder = folder("kept_captures");
+    let at = |start: u64, seconds: u64| {
+        let date = format!("2026-11-16T10:00:{seconds:02}Z");
+        json!({ "core:sample_start": start, "core:frequency": 7.03e6, "core:datetime": date })
+    };
+    // The receiver stood still between them: dates do not follow from the first.
+    let captures = json!([at(0, 0), at(3_000, 10), at(6_000, 30)]);
+    sigmf(&folder, "three", json!({}), captures.clone(), &bytes([(0.5, 0.25); 7_000]));
+    let written = |words: &str| -> Vec<(u64, String)> {
+        let said = lenakkum(&folder, &format!("run three.sigmf-meta {words} --out left.sigmf-meta --force"));
+        assert_eq!(said.status.code(), Some(0), "{words}: {}", text(&said.stderr));
+        let meta: Value = serde_json::from_slice(&fs::read(folder.join("left.sigmf-meta")).unwrap()).unwrap();
+        let field = |c: &Value| {
+            assert_eq!(c["core:frequency"], 7.03e6);
+            (c["core:sample_start"].as_u64().unwrap(), c["core:datetime"].as_str().unwrap().to_string())
+        };
+        meta["captures"].as_array().unwrap().iter().map(field).collect()
+    };
+    let expected = |all: &[(u64, &str)]| -> Vec<(u64, String)> {
+        all.iter().map(|(start, seconds)| (*start, format!("2026-11-16T10:00:{seconds}Z"))).collect()
+    };
+    assert_eq!(written(""), expected(&[(0, "00"), (3_000, "10"), (6_000, "30")]));
+    assert_eq!(written("--start 4500samples"), expected(&[(0, "10.500"), (1_500, "30")]));
+    assert_eq!(written("--start 3000samples --length 10samples"), expected(&[(0, "10")]));
+    assert_eq!(written("--capture 2"), expected(&[(0, "30")]));
+    // So does a statement.
+    let said = text(&lenakkum(&folder, "run three.sigmf-meta --start 4500samples --statement").stdout);
+    assert!(said.contains("\n(date 2026-11-16T10:00:10.500Z)\n"), "{said}");
 }

@@ -101,7 +101,10 @@ fn one_that_is_too_long_is_refused_and_told_what_to_do() {
         let said = lenakkum(&folder, &format!("run long.cf32 --rate 3000 {words}"));
         assert_eq!((said.status.code(), text(&said.stdout)), (Some(1), "(run 2)\n".to_string()));
         let line = text(&said.stderr);
-        assert!(line.ends_with("(--start and --length choose a part, --pieces SECONDS runs all of it part by part)\n"));
+        let why =
+            "refused (2): it has more than the 1048576 samples that are run at once: --start and --length choose \
+                   a part, --pieces SECONDS runs all of it part by part";
+        assert_eq!(line, format!("lenakkum: long.cf32: {why}\n"));
     }
     let said = lenakkum(&folder, "run long.cf32 --rate 3000 --pieces 300 --json");
     let sizes: Vec<Value> = json_lines(&said).iter().map(|run| run["samples"].clone()).collect();

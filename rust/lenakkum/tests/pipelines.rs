@@ -55,6 +55,9 @@ fn a_reader_that_goes_away_is_no_error() {
     // What cannot be written is one.
     let said = bash(&folder, "lenakkum run two.cf32 --rate 3000 >/dev/full");
     assert_wrong(&said, "standard output: No space left", "full");
+    // What was written before it stays.
+    let said = bash(&folder, "lenakkum run two.cf32 --rate 3000 --out full.cf32 >/dev/full");
+    assert_eq!((said.status.code(), fs::metadata(folder.join("full.cf32")).unwrap().len()), (Some(2), 8 * 2_048));
 }
 
 #[test]
@@ -83,4 +86,70 @@ fn what_is_there_is_replaced_with_force_only() {
     let left = fs::read(folder.join("there.cf32")).unwrap();
     assert!(left.len() == two().len() && left != two() && fs::read(folder.join("two.cf32")).unwrap() == left);
     assert_eq!(names(&folder), before);
+}
+
+/// What is written is f32 pairs, and would be read as something else by these names.
+#[test]
+fn names_that_do_not_fit_what_is_written() {
+    let folder = folder("unfit");
+    fs::write(folder.join("two.cf32"), two()).unwrap();
+    fs::write(folder.join("one.cf32"), one()).unwrap();
+    for (words, line) in [
+        ("--out left.sigmf", "left.sigmf: an archive is not written: left.sigmf-meta writes a SigMF pair"),
+        ("--out left.ci16", "left.ci16: by its name it is of type ci16, and cf32 is written: name it left.cf32"),
+        ("--out left.CS8 --force", "left.CS8: by its name it is of type ci8, and cf32 is written: name it left.cf32"),
+        (
+            "--pieces 1 --out {piece}.cf64",
+            "1.cf64: by its name it is of type cf64, and cf32 is written: name it 1.cf32",
+        ),
+        ("one.cf32 --out {name}.cu8", "two.cu8: by its name it is of type cu8"),
+    ] {
+        assert_wrong(&lenakkum(&folder, &format!("run two.cf32 --rate 3000 {words}")), line, words);
+    }
+    assert_eq!(names(&folder), ["one.cf32", "two.cf32"]);
+    for name in ["left.cf32", "left.iq", "left.raw", "left"] {
+        assert_eq!(lenakkum(&folder, &format!("run two.cf32 --rate 3000 --out {name}")).status.code(), Some(0));
+    }
+}
+
+/// A recording may have any name, also one for pictures and pages.
+#[test]
+fn no_picture_or_page_takes_a_recordings_place() {
+    let folder = folder("place");
+    for name in ["two.svg", "two.png", "two.html", "1.svg"] {
+        fs::write(folder.join(name), two()).unwrap();
+    }
+    symlink("two.svg", folder.join("link.svg")).unwrap();
+    sigmf(&folder, "far", serde_json::json!({ "core:dataset": "two.svg" }), serde_json::json!([]), &[]);
+    sigmf(&folder, "out", serde_json::json!({ "core:dataset": "far.cf32" }), serde_json::json!([]), &[]);
+    fs::write(folder.join("far.cf32"), two()).unwrap();
+    let before = names(&folder);
+    let mut cases = vec![
+        ("two.html --rate 3000 --page two.html", "two.html: it is the recording itself, and is not replaced"),
+        ("1.svg two.html --rate 3000 --page ./two.html --force", "./two.html: it is the recording itself, and is not"),
+        ("out.sigmf-meta --out far.cf32", "far.cf32: it is the recording itself: --force replaces it"),
+    ];
+    if cfg!(feature = "pictures") {
+        cases.extend([
+            ("two.svg --rate 3000 --picture two.svg", "two.svg: it is the recording itself, and is not replaced"),
+            (
+                "two.png --rate 3000 --picture two.png --force",
+                "two.png: it is the recording itself, and is not replaced",
+            ),
+            ("two.svg --rate 3000 --picture link.svg", "link.svg: it is the recording itself, and is not replaced"),
+            ("two.html 1.svg --rate 3000 --picture {number}.svg", "1.svg: it is the recording itself, and is not"),
+            ("far.sigmf-meta --picture two.svg", "two.svg: it is the recording itself, and is not replaced"),
+            (
+                "1.svg --rate 3000 --pieces 2048samples --picture {piece}.svg",
+                "1.svg: it is the recording itself, and is",
+            ),
+        ]);
+    }
+    for (words, line) in cases {
+        assert_wrong(&lenakkum(&folder, &format!("run {words}")), line, words);
+    }
+    assert_eq!(names(&folder), before);
+    for name in ["two.svg", "two.png", "two.html", "1.svg", "far.cf32"] {
+        assert!(fs::read(folder.join(name)).unwrap() == two(), "{name}");
+    }
 }
