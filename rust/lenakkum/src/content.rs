@@ -136,7 +136,7 @@ impl Kind {
 
 /// What to do with a sound file. One channel made two would be a recording with I = Q, which nothing took.
 fn heard(sound: &Sound, path: &Path) -> String {
-    let (kind, standard) = (sound.kind, reading::is_standard(path));
+    let kind = sound.kind;
     let (two, rate) = match sound.head {
         Some((1, _)) => return "it has one channel, and an I/Q recording has two".into(),
         Some((2, rate)) => ("-c 2 -", rate.to_string()),
@@ -147,8 +147,9 @@ fn heard(sound: &Sound, path: &Path) -> String {
     let run = |file: &str| format!("`sox {file} -t f32 {two} | lenakkum run - --rate {rate}`");
     let advice = match path.extension() {
         _ if kind == sound::BW64 => "write them anew as pairs of f32 (sox does not read it)".into(),
-        _ if standard && kind == sound::W64 => format!("write it to a file FILE.w64, and {}", run("FILE.w64")),
-        _ if standard => run(&format!("-t {kind} -")),
+        _ if kind == sound::W64 && reading::is_standard(path) => {
+            format!("write it to a file FILE.w64, and {}", run("FILE.w64"))
+        }
         Some(ending) if ending == kind => run(&quoted(path)),
         _ => run(&format!("-t {kind} {}", quoted(path))),
     };

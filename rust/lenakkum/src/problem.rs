@@ -10,7 +10,7 @@ use std::process::ExitCode;
 pub enum Problem {
     /// The command line, a file or an output: what is wrong with it.
     Wrong(String),
-    /// The recording of this name was refused.
+    /// The recording of this title was refused.
     Refused(String, Refusal),
 }
 
@@ -79,7 +79,7 @@ impl fmt::Display for Problem {
         match self {
             Problem::Wrong(line) => f.write_str(&on_one_line(line)),
             Problem::Refused(name, refusal) => {
-                write!(f, "{}: refused ({}): {}", on_one_line(name), refusal.number(), sentence(*refusal))
+                write!(f, "{name}: refused ({}): {}", refusal.number(), sentence(*refusal))
             }
         }
     }

@@ -154,8 +154,12 @@ fn files_of_other_kinds_are_told_by_their_content() {
         );
         // There is no file to unpack where it comes through a pipe.
         let said = fed(&folder, "run - --rate 3000", content);
-        assert_wrong(&said, "standard input: it is ", words);
-        assert!(!text(&said.stderr).contains("'standard input'"), "{words}");
+        let piped = match what {
+            "a tar archive" => "it is a tar archive: write it to a file, with a name that ends in .sigmf if it is one",
+            "a zip archive" => "it is a zip archive: write it to a file, `unzip` that, and run what was in it",
+            _ => words,
+        };
+        assert_wrong(&said, &format!("standard input: {piped}"), words);
     }
 }
 
