@@ -78,8 +78,8 @@ pub struct Run {
     /// Say after each report why the sender was taken off or the recording kept: four conditions, values and limits
     #[arg(long)]
     pub explain: bool,
-    /// Write the recording as the run leaves it: f32 pairs, a SigMF pair if FILE is named as one; - for standard output;
-    /// of several a file each, as {name}-left.cf32
+    /// Write the recording as the run leaves it: f32 pairs, a SigMF pair if FILE is named as one; - for standard
+    /// output; of several a file each, as {name}-left.cf32
     #[arg(long, value_name = "FILE")]
     pub out: Option<PathBuf>,
     /// Replace what --out names
