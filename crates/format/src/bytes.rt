@@ -13,14 +13,14 @@ pub fn bytes_ok(n: usize) -> bool
     if n % 8 == 0 { n <= 16384 } else { false }
 }
 
-fn number_of(a: u8, b: u8, c: u8, d: u8) -> u32
+pub fn number_of(a: u8, b: u8, c: u8, d: u8) -> u32
     ensures { λ r. ⌜ r ≡ a + 2 ^ 8 * b + 2 ^ 16 * c + 2 ^ 24 * d ⌝ }
 {
     a as u32 + 0x100 * (b as u32) + 0x1_0000 * (c as u32) + 0x100_0000 * (d as u32)
 }
 
 // The bit pattern of part i.
-fn pattern(bytes: &[u8], i: usize) -> u32
+pub fn pattern(bytes: &[u8], i: usize) -> u32
     requires { ⌜ i < length (now bytes) / 4 ⌝ }
     ensures { λ r. ⌜ r ≡ patternAt (now (bytes .entry)) i ⌝ }
 {

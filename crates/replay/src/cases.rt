@@ -10,15 +10,14 @@ use stored::answer::Ran;
 use stored::asked::of_case;
 use stored::equal::LENT;
 use stored::kept::copied;
-use stored::units::shorter;
 
 pub fn find(body: &[u8], iq: &[f32], stored_elements: &[f64]) -> Answered {
     let a = of_case(body);
     let mut elements = [LENT; ELEMENTS];
     let mut work = [LENT; WORK];
-    let n = shorter(a.floats, iq.len());
-    let e = shorter(a.elements, ELEMENTS);
-    let w = shorter(a.work, WORK);
+    let n = float::least(a.floats, iq.len());
+    let e = float::least(a.elements, ELEMENTS);
+    let w = float::least(a.work, WORK);
     calls::find(
         a,
         body,
@@ -33,10 +32,10 @@ pub fn fit(body: &[u8], iq: &[f32], stored_elements: &[f64], stored_fits: &[f64]
     let a = of_case(body);
     let mut fits = [LENT; FITS];
     let mut work = [LENT; WORK];
-    let n = shorter(a.floats, iq.len());
-    let e = shorter(a.given_elements, stored_elements.len());
-    let f = shorter(a.fits, FITS);
-    let w = shorter(a.work, WORK);
+    let n = float::least(a.floats, iq.len());
+    let e = float::least(a.given_elements, stored_elements.len());
+    let f = float::least(a.fits, FITS);
+    let w = float::least(a.work, WORK);
     calls::fit(
         a,
         body,
@@ -53,10 +52,10 @@ pub fn estimate(body: &[u8], iq: &[f32], stored_elements: &[f64], stored_fits: &
     let mut elements = [LENT; ELEMENTS];
     let mut fits = [LENT; FITS];
     let mut work = [LENT; WORK];
-    let n = shorter(a.floats, iq.len());
-    let e = shorter(a.elements, ELEMENTS);
-    let f = shorter(a.fits, FITS);
-    let w = shorter(a.work, WORK);
+    let n = float::least(a.floats, iq.len());
+    let e = float::least(a.elements, ELEMENTS);
+    let f = float::least(a.fits, FITS);
+    let w = float::least(a.work, WORK);
     calls::estimate(
         a,
         body,
@@ -72,10 +71,10 @@ pub fn estimate(body: &[u8], iq: &[f32], stored_elements: &[f64], stored_fits: &
 pub fn residual(body: &[u8], iq: &[f32], stored_elements: &[f64], stored_fits: &[f64]) -> Answered {
     let a = of_case(body);
     let mut work = [LENT; WORK];
-    let n = shorter(a.floats, iq.len());
-    let e = shorter(a.given_elements, stored_elements.len());
-    let f = shorter(a.given_fits, stored_fits.len());
-    let w = shorter(a.work, WORK);
+    let n = float::least(a.floats, iq.len());
+    let e = float::least(a.given_elements, stored_elements.len());
+    let f = float::least(a.given_fits, stored_fits.len());
+    let w = float::least(a.work, WORK);
     calls::residual(
         a,
         body,
@@ -89,10 +88,10 @@ pub fn residual(body: &[u8], iq: &[f32], stored_elements: &[f64], stored_fits: &
 pub fn evidence(body: &[u8], iq: &[f32], stored_elements: &[f64], stored_fits: &[f64]) -> Answered {
     let a = of_case(body);
     let mut work = [LENT; WORK];
-    let n = shorter(a.floats, iq.len());
-    let e = shorter(a.given_elements, stored_elements.len());
-    let f = shorter(a.given_fits, stored_fits.len());
-    let w = shorter(a.work, WORK);
+    let n = float::least(a.floats, iq.len());
+    let e = float::least(a.given_elements, stored_elements.len());
+    let f = float::least(a.given_fits, stored_fits.len());
+    let w = float::least(a.work, WORK);
     calls::evidence(
         a,
         body,
@@ -113,9 +112,9 @@ pub fn subtract(
     let a = of_case(body);
     let mut buf = [0.0f32; FLOATS];
     copied(iq, &mut buf);
-    let n = shorter(a.floats, FLOATS);
-    let e = shorter(a.given_elements, stored_elements.len());
-    let f = shorter(a.given_fits, stored_fits.len());
+    let n = float::least(a.floats, FLOATS);
+    let e = float::least(a.given_elements, stored_elements.len());
+    let f = float::least(a.given_fits, stored_fits.len());
     calls::subtract(
         a,
         iq,
@@ -139,10 +138,10 @@ pub fn run(
     let mut fits = [LENT; FITS];
     let mut work = [LENT; WORK];
     copied(iq, &mut buf);
-    let n = shorter(a.floats, FLOATS);
-    let e = shorter(a.elements, ELEMENTS);
-    let f = shorter(a.fits, FITS);
-    let w = shorter(a.work, WORK);
+    let n = float::least(a.floats, FLOATS);
+    let e = float::least(a.elements, ELEMENTS);
+    let f = float::least(a.fits, FITS);
+    let w = float::least(a.work, WORK);
     calls::run(
         a,
         body,

@@ -25,7 +25,7 @@ ghost use lib.ListN.{length};
 // The first record that puts nothing, and what a call's kind is raised by where its stored answer is meant to differ.
 const END: usize = 7;
 
-const MEANT: usize = 64;
+const RAISED: usize = 64;
 
 // What a run found is counted too, where it is not meant to differ.
 fn ran(tally: &mut [u64; PLACES], meant: bool, r: Ran) {
@@ -113,8 +113,8 @@ fn record(
         add(tally, tally::ENDS, 1, 0, 1);
         return true;
     }
-    let meant = kind >= MEANT;
-    let call = if meant { kind - MEANT } else { kind };
+    let meant = kind >= RAISED;
+    let call = if meant { kind - RAISED } else { kind };
     ask(
         call,
         meant,

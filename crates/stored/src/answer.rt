@@ -6,11 +6,12 @@ use crate::equal::same_list;
 use crate::tally;
 use crate::tally::PLACES;
 use crate::tally::add;
+use crate::tally::group_of;
 use crate::tally::only_if;
 ghost use mathlib.Core.Path.{_≡_};
-ghost use Prim.Native.Nat.{_<_};
+ghost use Prim.Native.Nat.{_≤_, _<_};
 ghost use Rattle.stored.specs.Answers.{refusedSame, figuredSame, filledSame, keptSame, leftSame};
-ghost use Rattle.stored.specs.Tally.{countedOf, ranOf};
+ghost use Rattle.stored.specs.Tally.{MEANT, askedIn, countedOf, ranOf};
 
 // What came of a case: whether it is equal, and 0 or the refusal's number.
 pub struct Answered {
@@ -88,18 +89,33 @@ pub fn left_same(stored: u64, changed: bool, buf: &[f32], iq: &[f32], left: &[f3
     same_floats(buf, iq)
 }
 
-// Counts a case of a call, or one that is meant to differ.
+// Counts a case of a call in its group: that it was asked, and whether it is equal.
+fn asked(tally: &mut [u64; PLACES], group: usize, call: usize, equal: bool)
+    requires { ⌜ group ≤ MEANT ⌝ }
+    ensures { λ _. ⌜ now (tally .exit) ≡ askedIn group call equal (now (tally .entry)) ⌝ }
+{
+    add(tally, group + tally::ASKED, tally::CALLS, call, 1);
+    add(
+        tally,
+        group + tally::EQUAL,
+        tally::CALLS,
+        call,
+        only_if(equal, 1),
+    );
+}
+
+// Counts a case of a call, and its number unless it is meant to differ.
 pub fn counted(tally: &mut [u64; PLACES], call: usize, meant: bool, a: Answered)
     ensures { λ _. ⌜ now (tally .exit) ≡ countedOf call meant (a .equal) (a .no) (now (tally .entry)) ⌝ }
 {
-    if meant {
-        add(tally, tally::MEANT, 1, 0, 1);
-        add(tally, tally::UNEQUAL, 1, 0, only_if(!a.equal, 1));
-        return;
-    }
-    add(tally, tally::ASKED, tally::CALLS, call, 1);
-    add(tally, tally::EQUAL, tally::CALLS, call, only_if(a.equal, 1));
-    add(tally, tally::REFUSED, tally::NUMBERS, a.no as usize, 1);
+    asked(tally, group_of(meant), call, a.equal);
+    add(
+        tally,
+        tally::REFUSED,
+        tally::NUMBERS,
+        a.no as usize,
+        only_if(!meant, 1),
+    );
 }
 
 // What a run adds to that.

@@ -1,6 +1,6 @@
 // Comparisons: bit for bit, where all NaNs are one and both zeros are one.
 use crate::units::double;
-use crate::units::shorter;
+use std::num::f32_to_f64_with_nan;
 ghost use mathlib.Core.Path.{_≡_};
 ghost use mathlib.Core.Bool.{not, cond};
 ghost use Prim.Native.Nat.{_+_, _*_, _<_};
@@ -42,13 +42,7 @@ fn same(a: f64, b: f64) -> bool
 fn same_single(x: f32, y: f32) -> bool
     ensures { λ r. ⌜ r ≡ sameNumber x y ⌝ }
 {
-    if x == y {
-        return true;
-    }
-    if x == x {
-        return false;
-    }
-    y != y
+    same(f32_to_f64_with_nan(x), f32_to_f64_with_nan(y))
 }
 
 // Are the first n numbers of both rows the same?
@@ -117,7 +111,7 @@ fn differing(a: &[f32], b: &[f32], k: usize) -> u64
 pub fn changed(a: &[f32], b: &[f32]) -> u64
     ensures { λ r. ⌜ r ≡ changedIn (now (a .entry)) (now (b .entry)) ⌝ }
 {
-    let n = shorter(a.len() / 2, b.len() / 2);
+    let n = float::least(a.len() / 2, b.len() / 2);
     let mut sum = 0;
     for k in 0..n {
         sum = sum + differing(a, b, k);

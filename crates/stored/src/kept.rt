@@ -3,7 +3,6 @@
 use crate::units::count;
 use crate::units::double;
 use crate::units::half;
-use crate::units::shorter;
 use crate::units::single;
 use std::num::nearest_u32_to_f32;
 
@@ -15,7 +14,7 @@ fn part(stored: u32, scale: f32) -> f32 {
 // A recording: its count of floats, the scale, and then 16 bits for each float.
 pub fn recording(body: &[u8], iq: &mut [f32]) {
     let scale = single(body, 1);
-    let n = shorter(count(body, 0), iq.len());
+    let n = float::least(count(body, 0), iq.len());
     for i in 0..n {
         iq[i] = part(half(body, 4 + i), scale);
     }
@@ -38,7 +37,7 @@ pub fn floats(body: &[u8], row: &mut [f32]) {
 
 // The floats of one row to the start of another.
 pub fn copied(from: &[f32], to: &mut [f32]) {
-    let n = shorter(from.len(), to.len());
+    let n = float::least(from.len(), to.len());
     for i in 0..n {
         to[i] = from[i];
     }
@@ -46,7 +45,7 @@ pub fn copied(from: &[f32], to: &mut [f32]) {
 
 // A list of numbers.
 pub fn list(body: &[u8], row: &mut [f64]) {
-    let n = shorter(body.len() / 8, row.len());
+    let n = float::least(body.len() / 8, row.len());
     for i in 0..n {
         row[i] = double(body, 2 * i);
     }

@@ -1,8 +1,8 @@
 // What is counted, each at its place in a row of counts.
 ghost use mathlib.Core.Path.{_≡_};
 ghost use mathlib.Core.Bool.{cond};
-ghost use Prim.Native.Nat.{_+_, _-_, _^_, _<_, min};
-ghost use Rattle.stored.specs.Tally.{placeOf, plus};
+ghost use Prim.Native.Nat.{_+_, _-_, _^_, _≤_, _<_, min};
+ghost use Rattle.stored.specs.Tally.{PLACES, STORED, MEANT, placeOf, plus};
 
 // As many calls, numbers of a refusal (0 stands for what is accepted) and hypotheses as there is room for.
 pub const CALLS: usize = 24;
@@ -11,14 +11,22 @@ pub const NUMBERS: usize = 20;
 
 pub const HYPOTHESES: usize = 4;
 
-// The calls, in the order of crates/replay/README.md: how many were asked, and how many of them answered as the Rust
-// does.
+// In a group of cases the calls, in the order of crates/replay/README.md: how many were asked, and how many of them are
+// equal.
 pub const ASKED: usize = 0;
 
 pub const EQUAL: usize = ASKED + CALLS;
 
+const GROUP: usize = EQUAL + CALLS;
+
+// Where the two groups begin: cases with the Rust's answer, and those where one bit of it was changed, which are meant
+// to differ.
+pub const STORED: usize = 0;
+
+pub const MEANT: usize = STORED + GROUP;
+
 // Refusals, by their number.
-pub const REFUSED: usize = EQUAL + CALLS;
+pub const REFUSED: usize = MEANT + GROUP;
 
 // Accepted runs, by their hypothesis.
 pub const HYPOTHESIS: usize = REFUSED + NUMBERS;
@@ -28,18 +36,20 @@ pub const TAKEN: usize = HYPOTHESIS + HYPOTHESES;
 
 pub const CHANGED: usize = TAKEN + 1;
 
-// Cases that are meant to differ, and how many of them do.
-pub const MEANT: usize = CHANGED + 1;
-
-pub const UNEQUAL: usize = MEANT + 1;
-
 // Ends of the stored answers.
-pub const ENDS: usize = UNEQUAL + 1;
+pub const ENDS: usize = CHANGED + 1;
 
 // Records that are not whole or of no known kind, and what has no place of its own.
 pub const BROKEN: usize = ENDS + 1;
 
 pub const PLACES: usize = BROKEN + 1;
+
+// Where the group of a case begins.
+pub fn group_of(meant: bool) -> usize
+    ensures { λ r. ⌜ (r ≡ cond meant MEANT STORED) × (r ≤ MEANT) ⌝ }
+{
+    if meant { MEANT } else { STORED }
+}
 
 pub fn only_if(yes: bool, n: u64) -> u64
     ensures { λ r. ⌜ r ≡ cond yes n 0 ⌝ }
@@ -60,7 +70,7 @@ pub fn sum(a: u64, b: u64) -> u64
 
 // The place that is k after the first of its kind, of which there are so many.
 fn place(first: usize, places: usize, k: usize) -> usize
-    ensures { λ r. ⌜ (r ≡ placeOf first places k) × (r < 78) ⌝ }
+    ensures { λ r. ⌜ (r ≡ placeOf first places k) × (r < PLACES) ⌝ }
 {
     if k < places {
         if first < PLACES {

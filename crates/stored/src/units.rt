@@ -1,24 +1,12 @@
 // A record's numbers: 32-bit units, the least byte first, and numbers of two units, the lower one first. A unit that
 // the record does not have is 0, so that no file is too short to be read.
+use format::bytes::number_of;
+use format::bytes::pattern;
 ghost use mathlib.Core.Path.{_≡_};
-ghost use Prim.Native.Nat.{_+_, _*_, _/_, _^_, _≤_, _<_, min};
+ghost use Prim.Native.Nat.{_+_, _*_, _/_, _^_, _≤_, _<_};
 ghost use lib.ListN.{length};
 ghost use lib.Ieee.{binary64, ofBits};
-ghost use Rattle.format.specs.Bytes.{patternAt};
-ghost use Rattle.stored.specs.Units.{unitAt, longAt, doubleAt};
-
-// The smaller of two numbers.
-pub fn shorter(a: usize, b: usize) -> usize
-    ensures { λ r. ⌜ (r ≤ a) × (r ≤ b) × (r ≡ min a b) ⌝ }
-{
-    if a <= b { a } else { b }
-}
-
-fn joined_bytes(a: u8, b: u8, c: u8, d: u8) -> u32
-    ensures { λ r. ⌜ r ≡ a + 2 ^ 8 * b + 2 ^ 16 * c + 2 ^ 24 * d ⌝ }
-{
-    a as u32 + 0x100 * (b as u32) + 0x1_0000 * (c as u32) + 0x100_0000 * (d as u32)
-}
+ghost use Rattle.stored.specs.Units.{unitIn, longAt, doubleAt};
 
 fn joined_units(low: u32, high: u32) -> u64
     ensures { λ r. ⌜ r ≡ low + 2 ^ 32 * high ⌝ }
@@ -29,30 +17,17 @@ fn joined_units(low: u32, high: u32) -> u64
 // 16 bits: half a unit.
 pub fn half(bytes: &[u8], i: usize) -> u32 {
     if i < bytes.len() / 2 {
-        joined_bytes(bytes[2 * i], bytes[2 * i + 1], 0, 0)
+        number_of(bytes[2 * i], bytes[2 * i + 1], 0, 0)
     } else {
         0
     }
 }
 
-// Four bytes that are there.
-fn whole_unit(bytes: &[u8], i: usize) -> u32
-    requires { ⌜ i < length (now bytes) / 4 ⌝ }
-    ensures { λ r. ⌜ r ≡ patternAt (now (bytes .entry)) i ⌝ }
-{
-    joined_bytes(
-        bytes[4 * i],
-        bytes[4 * i + 1],
-        bytes[4 * i + 2],
-        bytes[4 * i + 3],
-    )
-}
-
 pub fn unit(bytes: &[u8], i: usize) -> u32
-    ensures { λ r. ⌜ r ≡ unitAt (now (bytes .entry)) i ⌝ }
+    ensures { λ r. ⌜ r ≡ unitIn (now (bytes .entry)) i ⌝ }
 {
     if i < bytes.len() / 4 {
-        whole_unit(bytes, i)
+        pattern(bytes, i)
     } else {
         0
     }
@@ -60,7 +35,7 @@ pub fn unit(bytes: &[u8], i: usize) -> u32
 
 // A unit that is a count or a length.
 pub fn count(bytes: &[u8], i: usize) -> usize
-    ensures { λ r. ⌜ r ≡ unitAt (now (bytes .entry)) i ⌝ }
+    ensures { λ r. ⌜ r ≡ unitIn (now (bytes .entry)) i ⌝ }
 {
     unit(bytes, i) as usize
 }

@@ -1,6 +1,6 @@
 -- `replay::cases::estimate` is safe and ends. Assumes nothing.
 use borrow.Author.Needs.{needs}
-use Rattle.replay.proofs.Prefix.{prefix-length}
+use Rattle.replay.proofs.Prefix.{prefix-length, least-fits}
 use Rattle.replay.proofs.cases.estimate.Statement.{statement}
 use Rattle.replay.proofs.cases.estimate.Tie as tie
 
@@ -13,12 +13,12 @@ estimate-spec =
     (λ c κs. search needs)
     (λ c κs. search needs)
     (λ c κs. search needs)
-    (λ c. search (needs, prefix-length))
+    (λ c. search (needs, prefix-length, least-fits))
     (λ c. search needs)
-    (λ c. search (needs, prefix-length))
+    (λ c. search (needs, prefix-length, least-fits))
     (λ c. search needs)
-    (λ c. search (needs, prefix-length))
+    (λ c. search (needs, prefix-length, least-fits))
     (λ c. search needs)
-    (λ c. search (needs, prefix-length))
+    (λ c. search (needs, prefix-length, least-fits))
     (λ c κs. search needs)
     (λ c. search needs))

@@ -1,6 +1,6 @@
 -- `replay::cases::find` is safe and ends. Assumes nothing.
 use borrow.Author.Needs.{needs}
-use Rattle.replay.proofs.Prefix.{prefix-length}
+use Rattle.replay.proofs.Prefix.{prefix-length, least-fits}
 use Rattle.replay.proofs.cases.find.Statement.{statement}
 use Rattle.replay.proofs.cases.find.Tie as tie
 
@@ -12,10 +12,10 @@ find-spec =
     (λ c κs. search needs)
     (λ c κs. search needs)
     (λ c κs. search needs)
-    (λ c. search (needs, prefix-length))
+    (λ c. search (needs, prefix-length, least-fits))
     (λ c. search needs)
-    (λ c. search (needs, prefix-length))
+    (λ c. search (needs, prefix-length, least-fits))
     (λ c. search needs)
-    (λ c. search (needs, prefix-length))
+    (λ c. search (needs, prefix-length, least-fits))
     (λ c κs. search needs)
     (λ c. search needs))

@@ -1,6 +1,6 @@
 -- `replay::cases::run` is safe and ends. Assumes nothing.
 use borrow.Author.Needs.{needs}
-use Rattle.replay.proofs.Prefix.{prefix-length}
+use Rattle.replay.proofs.Prefix.{prefix-length, least-fits}
 use Rattle.replay.proofs.cases.run.Statement.{statement}
 use Rattle.replay.proofs.cases.run.Tie as tie
 
@@ -24,10 +24,10 @@ run-spec =
     few
     slice-aggregate-run
     (λ c. search needs)
-    (λ c. search (needs, prefix-length))
+    (λ c. search (needs, prefix-length, least-fits))
     (λ c. search needs)
-    (λ c. search (needs, prefix-length))
+    (λ c. search (needs, prefix-length, least-fits))
     (λ c. search needs)
-    (λ c. search (needs, prefix-length))
+    (λ c. search (needs, prefix-length, least-fits))
     (λ c κs. search needs)
     (λ c. search needs))

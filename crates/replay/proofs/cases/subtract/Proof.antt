@@ -1,6 +1,6 @@
 -- `replay::cases::subtract` is safe and ends. Assumes nothing.
 use borrow.Author.Needs.{needs}
-use Rattle.replay.proofs.Prefix.{prefix-length}
+use Rattle.replay.proofs.Prefix.{prefix-length, least-fits}
 use Rattle.replay.proofs.cases.subtract.Statement.{statement}
 use Rattle.replay.proofs.cases.subtract.Tie as tie
 
@@ -20,8 +20,8 @@ subtract-spec =
     (λ c κs. search needs)
     (λ c κs. search needs)
     (λ c κs. search needs)
-    (λ c. search (needs, prefix-length))
-    (λ c. search (needs, prefix-length))
+    (λ c. search (needs, prefix-length, least-fits))
+    (λ c. prefix-length _ _ (least-fits _ _ _ (c .before .before .least3 .ensures)))
     few
     slice-aggregate-subtract-3
     (λ c κs. search needs)

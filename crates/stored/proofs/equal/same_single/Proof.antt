@@ -1,16 +1,10 @@
--- `stored::equal::same_single` meets its contract. Assumes nothing.
-use Rattle.stored.proofs.Numbers.{same-equal, same-other, same-nan}
+-- `stored::equal::same_single` meets its contract: an f32 is the same number as an f64. Assumes nothing.
+use borrow.Author.Needs.{needs}
 use Rattle.stored.proofs.equal.same_single.Statement.{statement}
 use Rattle.stored.proofs.equal.same_single.Tie as tie
 
 returns : tie.Need-returns
-returns c = same-equal _ _ (c .if1 .taken)
-
-returns-2 : tie.Need-returns-2
-returns-2 c = same-other _ _ (c .before .if1 .left) (c .if2 .taken)
-
-returns-3 : tie.Need-returns-3
-returns-3 c = same-nan _ _ (c .before .if1 .left) (c .if2 .left)
+returns c = rw (c .same .ensures, c .before .f32-to-f64-with-nan2 .ensures, c .before .before .f32-to-f64-with-nan .ensures)
 
 pub same-single-spec : {M : Type 1} → statement M
-same-single-spec = tie.close (tie.spec returns returns-2 returns-3)
+same-single-spec = tie.close (tie.spec (λ c κs. search needs) (λ c κs. search needs) (λ c κs. search needs) returns)

@@ -6,7 +6,7 @@ use mathlib.Core.List.{List}
 use borrow.Author.Needs.{needs}
 use borrow.Author.Tests.{le-ltb}
 use lib.ListN.{length}
-use Rattle.stored.specs.Units.{unitAt, longAt}
+use Rattle.stored.specs.Units.{unitIn, longAt}
 use Rattle.stored.proofs.units.long.Statement.{statement}
 use Rattle.stored.proofs.units.long.Tie as tie
 
@@ -15,7 +15,7 @@ unfolding longAt
 returns c = rw (c .joined-units .ensures, c .before .unit2 .ensures, c .before .before .unit .ensures)
 
 past-end : (bytes : List ℕ) (i : ℕ) → length bytes / 4 ≤ i → 0 ≡ longAt bytes i
-unfolding longAt unitAt
+unfolding longAt unitIn
 past-end bytes i h = rw (le-ltb i (length bytes / 4) h, le-ltb (i + 1) (length bytes / 4) (omega arith))
 
 returns-2 : tie.Need-returns-2
