@@ -1,6 +1,6 @@
 -- Every call from C that asks and writes figures, by the questions, the result and what was lent of the call of crate
--- cancel: what its promise says of what it returns. (`cancel_subtract`, which writes none, has it by `number-accepts` and
--- `number-asked` of crate questions.) Assumes nothing.
+-- cancel: what its promise says of what it returns. (`cancel_subtract`, which writes none, has it by `number-accepts`
+-- and `number-asked` of crate questions.) Assumes nothing.
 use Prim.Native.Nat.{ℕ, zero, suc}
 use mathlib.Core.Path.{_≡_, refl, _∙_}
 use mathlib.Core.Bool.{false}

@@ -50,7 +50,8 @@ impl ResidualCheck {
     }
 }
 
-// Rust: ratio_db. The floor that the Rust puts under `nb` is put under the lower side here, once it is known to be there.
+// Rust: ratio_db. The floor that the Rust puts under `nb` is put under the lower side here, where it is known to be
+// there.
 fn ratio_db(num: Percentile, den: Percentile) -> f64
     ensures { λ r. ⌜ r ≡ ratioDb num (floored den) ⌝ }
 {
