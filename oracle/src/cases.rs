@@ -194,7 +194,7 @@ fn ask_wrongly(stored: &mut Stored, s: &Scene, name: &str, wrong: Wrong) {
 }
 
 /// Answers that are wrong by one bit, which the program has to find unequal: about a short recording whose run is kept;
-/// the number of a refusal; the buffer of a run that is taken.
+/// the number of a refusal; the buffer of a run that is taken, and that it is changed at all.
 fn meant_to_differ(stored: &mut Stored) {
     let mut r = Random::new(11);
     let iq = real(300, |k| if (100..200).contains(&k) { 1.0 } else { 0.0 });
@@ -212,5 +212,9 @@ fn meant_to_differ(stored: &mut Stored) {
     for s in crowded_scenes("taken", Aim::Neighbour, 1) {
         stored.recording(&s.recording.iq, crowded::SCALE);
         ask_wrongly(stored, &s, "cancel_run", Wrong::Sample);
+        ask_wrongly(stored, &s, "cancel_run", Wrong::Kept);
+        ask_wrongly(stored, &s, "cancel_subtract", Wrong::Kept);
+        // A line more than the residual check has, so that the two calls' lines differ.
+        ask_wrongly(stored, &s, "cancel_second_carrier_evidence", Wrong::First);
     }
 }

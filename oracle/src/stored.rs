@@ -76,15 +76,18 @@ fn stretches(a: &[f32], b: &[f32]) -> Vec<(usize, usize)> {
     all
 }
 
-/// What is wrong in an answer that is meant to differ: one bit of the last figure, of the last number of the last element
-/// or fit, of the last float of the buffer, or of the refusal's number, which is 0 where the call is accepted.
+/// What is wrong in an answer that is meant to differ: one bit of the first or the last figure, of the last number of the
+/// last element or fit, of the last float of the buffer, of the refusal's number, which is 0 where the call is accepted,
+/// or the one that says whether the buffer is changed.
 #[derive(Debug, Clone, Copy, PartialEq)]
 pub enum Wrong {
+    First,
     Figure,
     Element,
     Fit,
     Sample,
     Number,
+    Kept,
 }
 
 /// Changes a number by one bit, to another one.
@@ -169,12 +172,13 @@ impl Stored {
             Err(no) => (no, Answer::default()),
         };
         match wrong {
+            Some(Wrong::First) => one_bit(answer.figures.first_mut()),
             Some(Wrong::Figure) => one_bit(answer.figures.last_mut()),
             Some(Wrong::Element) => one_bit(answer.elements.last_mut()),
             Some(Wrong::Fit) => one_bit(answer.fits.last_mut()),
             Some(Wrong::Sample) => one_bit(answer.buffer.as_mut().and_then(|b| b.last_mut())),
             Some(Wrong::Number) => status ^= 1,
-            None => {}
+            Some(Wrong::Kept) | None => {}
         }
         let mut body = Vec::new();
         if call.is_handed(Slot::evidence) {
@@ -187,6 +191,9 @@ impl Stored {
                     changed = 1;
                     self.left(buffer);
                 }
+            }
+            if wrong == Some(Wrong::Kept) {
+                changed ^= 1;
             }
             let g = &s.given;
             let estimate = call.is_handed(Slot::estimate);

@@ -194,7 +194,7 @@ static int run(struct floats recording, double rate, double hint)
                                             fits.at, fits.len, work.at, work.len, figures);
         if (refusal == CANCEL_ACCEPTED) {
             print_figures(figures);
-            if (fflush(stdout) != 0)
+            if (fflush(stdout) != 0 || ferror(stdout))
                 status = failed("the figures", "cannot be written");
         } else {
             fprintf(stderr, "receiver: refused by question %d: %s\n", (int)refusal, cancel_reason(refusal));

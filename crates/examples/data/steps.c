@@ -55,6 +55,6 @@ int main(int argc, char **argv)
         return fprintf(stderr, "steps: what is left would not be clean, and nothing is written\n"), 1;
     ask("subtract", cancel_subtract(iq, len, rate, at, 0, els, els_len, n, fs, fits_len, m));
     FILE *out = fopen(argv[4], "wb");
-    return out && fwrite(iq, sizeof *iq, len, out) == len && fclose(out) == 0 && fflush(stdout) == 0
+    return out && fwrite(iq, sizeof *iq, len, out) == len && fclose(out) == 0 && !fflush(stdout) && !ferror(stdout)
         ? 0 : (perror("steps: the fits or LEFT"), 2);
 }

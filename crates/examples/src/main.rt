@@ -51,7 +51,7 @@ fn compare(k: usize, piece: usize, stored: &[u8]) {
     let mut bytes = [0u8; INPUT];
     let came = read_input(k, &mut bytes, piece);
     let mut out = [0u8; report::ROOM];
-    let length = report::report_read(&bytes, came.count, &mut out);
+    let length = report::report_read(&bytes, came, &mut out);
     name(k);
     say(b" (the last read asked for ");
     io::print_decimal(STDOUT_FILENO, came.asked as u64);

@@ -2,6 +2,7 @@
 use cancel::RunAnswer;
 use elements::ELEMENT;
 use fits::FIT;
+use format::Came;
 use format::INPUT;
 use format::bytes_ok;
 use format::line;
@@ -75,13 +76,14 @@ fn report_first(bytes: &[u8], n: usize, out: &mut [u8; ROOM]) -> usize
     report(bytes, out)
 }
 
-// What the programs ask of the array into which a recording was read, and of the count. A count beyond the array counts
-// as a full one, and a full one holds more than a recording may have.
-pub fn report_read(bytes: &[u8; INPUT], n: usize, out: &mut [u8; ROOM]) -> usize
+// What the programs ask of the array into which a recording was read, and of what came: that is handed over whole, so
+// that no program chooses which of its numbers is the count. A count beyond the array counts as a full one, and a full
+// one holds more than a recording may have.
+pub fn report_read(bytes: &[u8; INPUT], came: Came, out: &mut [u8; ROOM]) -> usize
     ensures { λ r. ⌜ Counts r (now (out .exit)) ⌝ }
-    ensures { λ r. ⌜ (r ≡ length (reportOf (take n (now (bytes .entry)))))
-        × (now (out .exit) ≡ reportOf (take n (now (bytes .entry))) ++ drop (length (reportOf (take n (now (bytes .entry))))) (now (out .entry))) ⌝ }
-    ensures { λ r. ⌜ (INPUT ≤ n → reportOf (take n (now (bytes .entry))) ≡ refusal REFUSED_COUNT) ⌝ }
+    ensures { λ r. ⌜ (r ≡ length (reportOf (take (came .count) (now (bytes .entry)))))
+        × (now (out .exit) ≡ reportOf (take (came .count) (now (bytes .entry))) ++ drop (length (reportOf (take (came .count) (now (bytes .entry))))) (now (out .entry))) ⌝ }
+    ensures { λ r. ⌜ (INPUT ≤ came .count → reportOf (take (came .count) (now (bytes .entry))) ≡ refusal REFUSED_COUNT) ⌝ }
 {
-    report_first(bytes, n, out)
+    report_first(bytes, came.count, out)
 }

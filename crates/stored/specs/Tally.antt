@@ -72,7 +72,7 @@ unfoldable pub countedOf : ℕ → Bool → Bool → ℕ → List ℕ → List �
 countedOf call meant equal number t =
     plus REFUSED NUMBERS number (cond (not meant) 1 0) (askedIn (cond meant MEANT STORED) call equal t)
 
--- what a run adds to that, unless it is meant to differ: its hypothesis where it is accepted; whether it said taken,
+-- what a run that is not meant to differ adds to that: its hypothesis where it is accepted; whether it said taken,
 -- and the samples that it changed
 unfoldable pub ranOf : ℕ → ℕ → Bool → ℕ → List ℕ → List ℕ
 ranOf number hypothesis taken changed t =

@@ -7,6 +7,6 @@ fn main() {
     let mut bytes = [0u8; format::INPUT];
     let came = format::read_recording(STDIN_FILENO, &mut bytes, format::INPUT);
     let mut out = [0u8; report::ROOM];
-    let length = report::report_read(&bytes, came.count, &mut out);
+    let length = report::report_read(&bytes, came, &mut out);
     io::write_all(STDOUT_FILENO, &out[..length]);
 }

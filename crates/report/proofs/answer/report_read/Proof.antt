@@ -11,7 +11,7 @@ returns c =
     let entry = c .before .before .before in
     let bytes = entry .args .bytes .now in
     let put = c .report-first .ensures in
-    (put .0, (put .1, λ h. rw (take-all (entry .args .n) bytes (omega arith)) (report-full bytes (omega arith))))
+    (put .0, (put .1, λ h. rw (take-all (entry .args .came .count) bytes (omega arith)) (report-full bytes (omega arith))))
 
 pub report-read-spec : {M : Type 1} → statement M
 report-read-spec = tie.close (tie.spec (λ c κs. search needs) returns)
