@@ -115,6 +115,7 @@ fn refusals() {
         assert_eq!(refusal(number), Some(name));
     }
     assert_eq!((refusal(0), refusal(LAST + 1)), (None, None));
+    assert_eq!((1..=99).filter(|n| refusal(*n).is_some()).count() as u64, LAST);
 }
 
 /// Each refusal that the oracle gives has a reason of its own: what is wrong, a colon, what to do.
