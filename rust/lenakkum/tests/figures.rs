@@ -221,7 +221,9 @@ fn rows(csv: &[u8]) -> Vec<Vec<(String, String)>> {
 
 /// The report, and the four conditions after it: whether each holds, and its words.
 fn explained(folder: &Path, part: &Part) -> (String, Vec<(bool, String)>) {
-    let said = lenakkum(folder, &format!("{} --explain", asked(std::slice::from_ref(part))));
+    let (file, first, count) = (&part.file, part.first, part.run.figures.samples);
+    let said =
+        lenakkum(folder, &format!("run {file} {WORDS} --start {first}samples --length {count}samples --explain"));
     let all = text(&said.stdout);
     let (report, after) = all.split_at(all.find("))\n").unwrap() + 3);
     let conditions = after.lines().skip(1).map(|line| match line.strip_prefix("  holds: ") {
@@ -332,15 +334,17 @@ fn same_json(line: &Value, expected: &Value, what: &str) {
 fn of_pieces() {
     let folder = folder("figures_pieces");
     let samples = written(&folder, "two.cf32", mixed(RATE, 62, Other { offset_hz: 47.3, level: 0.15, keys: true }));
-    let cut = 14_000;
+    let cut = 20_000;
     let parts = [part("two.cf32", Some(1), &samples, 0, cut), part("two.cf32", Some(2), &samples, cut, samples.len())];
+    // Of one there is something to say on why it was kept.
+    assert_eq!(parts.iter().map(|part| part.run.figures.taken).collect::<Vec<_>>(), [true, false]);
     let words = format!("run two.cf32 {WORDS} --pieces {cut}samples");
     let lines = json_lines(&lenakkum(&folder, &format!("{words} --json")));
     let rows = rows(&lenakkum(&folder, &format!("{words} --csv")).stdout);
     let said = text(&lenakkum(&folder, &words).stdout);
     assert_eq!((lines.len(), rows.len()), (2, 2));
     for (part, (line, row)) in parts.iter().zip(lines.iter().zip(&rows)) {
-        let why: Vec<String> = serde_json::from_value(line["kept_because"].clone()).unwrap();
+        let why = kept_because(&explained(&folder, part).1);
         same_json(line, &json_of(part, &why), "a piece");
         let row: Vec<(&str, String)> = row.iter().map(|(name, field)| (name.as_str(), field.clone())).collect();
         assert_eq!(row, csv_of(part, &why));
