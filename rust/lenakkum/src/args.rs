@@ -6,7 +6,7 @@ use crate::parts::{Choice, Extent};
 use crate::problem::Problem;
 use crate::reading::{self, Reading};
 use crate::statement::VERSION;
-use crate::writing;
+use crate::writing::{self, Inputs};
 use cancel::LIBRARY;
 use clap::error::ErrorKind;
 use clap::{Parser, Subcommand};
@@ -95,9 +95,9 @@ pub struct Run {
     /// Add to each report the recording's digest and date, rate and hint, the command's version, the library's commit
     #[arg(long)]
     pub statement: bool,
-    /// The files that are read, by their full names, where others are written.
+    /// The files that are read, where others are written.
     #[arg(skip)]
-    inputs: BTreeSet<PathBuf>,
+    inputs: Inputs,
 }
 
 /// How a run is reported.
@@ -185,22 +185,26 @@ impl Run {
         }
         self.once()?;
         if self.writes() {
-            self.inputs = self.files.iter().flat_map(|path| reading::files(path)).flat_map(fs::canonicalize).collect();
+            for (i, path) in self.files.iter().enumerate() {
+                for file in reading::files(path).into_iter().flat_map(fs::canonicalize) {
+                    self.inputs.entry(file).or_default().push(i + 1);
+                }
+            }
         }
         self.nothing_lost()?;
         self.page.as_ref().map_or(Ok(()), |page| writing::no_input(page, &self.inputs))?;
         Ok(self)
     }
 
-    /// No file is to be written twice.
+    /// No file is to be written twice, by whatever names.
     fn once(&self) -> Result<(), Problem> {
-        let mut all: BTreeSet<PathBuf> = self.page.iter().cloned().collect();
+        let mut all: BTreeSet<PathBuf> = self.page.iter().map(|page| writing::place(page)).collect();
         for (i, path) in self.files.iter().enumerate() {
             let of = names::Of { path, number: i + 1, piece: 1 };
             let out = self.out_file().map_or_else(Vec::new, |out| writing::files(&names::named(out, of)));
             let picture = self.picture_file().map(|picture| names::named(picture, of));
             for file in out.into_iter().chain(picture) {
-                if !all.insert(file.clone()) {
+                if !all.insert(writing::place(&file)) {
                     let why = "it would be written twice; {number} in its name tells recordings apart";
                     return Err(Problem::with(file.display(), why));
                 }
@@ -224,8 +228,12 @@ impl Run {
 
     /// May these files be written, seeing what is there?
     pub fn may_be_written(&self, of: names::Of<'_>) -> Result<(), Problem> {
-        if let Some(out) = self.out_file().filter(|_| !self.force) {
-            writing::nothing_lost(&names::named(out, of), &self.inputs)?;
+        if let Some(out) = self.out_file() {
+            let out = names::named(out, of);
+            writing::no_other(&out, of.number, &self.inputs)?;
+            if !self.force {
+                writing::nothing_lost(&out, &self.inputs)?;
+            }
         }
         self.picture_file().map_or(Ok(()), |picture| writing::no_input(&names::named(picture, of), &self.inputs))
     }

@@ -8,11 +8,14 @@ use crate::sigmf;
 use cancel::KeyDown;
 use num_complex::Complex32;
 use sha2::{Digest, Sha512};
-use std::collections::BTreeSet;
+use std::collections::BTreeMap;
 use std::fs::{self, File};
 use std::io::Write;
 use std::path::{Path, PathBuf};
 use std::process;
+
+/// The files that are read, by their full names, and the numbers of the recordings that they are of.
+pub type Inputs = BTreeMap<PathBuf, Vec<usize>>;
 
 /// A file that stands complete beside the place it is meant for, and is gone unless it is put there.
 pub struct Staged {
@@ -24,8 +27,7 @@ impl Staged {
     /// Fills a file beside the place, by its path. It has the same extension as the place.
     pub fn new(path: &Path, fill: impl FnOnce(&Path) -> Result<(), String>) -> Result<Staged, Problem> {
         let wrong = |why: String| Problem::with(path.display(), why);
-        // A link stays, and what it leads to is replaced.
-        let place = fs::canonicalize(path).unwrap_or_else(|_| path.to_path_buf());
+        let place = place(path);
         let name = place.file_name().ok_or_else(|| wrong("it is not the name of a file".to_string()))?;
         // What is put there takes the place of a file, and must not take that of a device.
         match fs::metadata(path) {
@@ -84,6 +86,16 @@ pub fn bytes(samples: &[Complex32]) -> Vec<u8> {
     samples.iter().flat_map(|x| [x.re, x.im]).flat_map(f32::to_le_bytes).collect()
 }
 
+/// Where a file of this name is put, the same by all its names. A link to a file that is there stays, and the file is
+/// replaced; one that leads nowhere is replaced itself.
+pub fn place(path: &Path) -> PathBuf {
+    let folder = path.parent().filter(|folder| !folder.as_os_str().is_empty()).unwrap_or_else(|| Path::new("."));
+    fs::canonicalize(path).unwrap_or_else(|_| match (fs::canonicalize(folder), path.file_name()) {
+        (Ok(folder), Some(name)) => folder.join(name),
+        _ => path.to_path_buf(),
+    })
+}
+
 /// The files that a recording of this name is written to.
 pub fn files(path: &Path) -> Vec<PathBuf> {
     sigmf::pair(path).map_or_else(|| vec![path.to_path_buf()], |pair| vec![pair.data, pair.meta])
@@ -106,7 +118,7 @@ pub fn truly_named(path: &Path) -> Result<(), Problem> {
 }
 
 /// Stops at a recording's name where a file is already, one that is run above all.
-pub fn nothing_lost(path: &Path, inputs: &BTreeSet<PathBuf>) -> Result<(), Problem> {
+pub fn nothing_lost(path: &Path, inputs: &Inputs) -> Result<(), Problem> {
     // What is no file is complained of where it is written.
     match files(path).into_iter().find(|file| file.is_file()) {
         None => Ok(()),
@@ -117,8 +129,18 @@ pub fn nothing_lost(path: &Path, inputs: &BTreeSet<PathBuf>) -> Result<(), Probl
     }
 }
 
+/// Stops where what is left of the recording of this number would take the place of another of the same command: it
+/// may not have been read yet, and would be lost.
+pub fn no_other(path: &Path, number: usize, inputs: &Inputs) -> Result<(), Problem> {
+    let of_another = |file: &PathBuf| read_of(file, inputs).iter().any(|other| *other != number);
+    files(path).into_iter().find(of_another).map_or(Ok(()), |file| {
+        let why = "it is another recording of this command, and is not replaced: name another file";
+        Err(Problem::with(file.display(), why))
+    })
+}
+
 /// Stops where a picture or a page would take a recording's place: that is never meant.
-pub fn no_input(path: &Path, inputs: &BTreeSet<PathBuf>) -> Result<(), Problem> {
+pub fn no_input(path: &Path, inputs: &Inputs) -> Result<(), Problem> {
     if is_input(path, inputs) {
         return Err(Problem::with(
             path.display(),
@@ -129,6 +151,11 @@ pub fn no_input(path: &Path, inputs: &BTreeSet<PathBuf>) -> Result<(), Problem> 
 }
 
 /// Is this file one of those that are read?
-fn is_input(file: &Path, inputs: &BTreeSet<PathBuf>) -> bool {
-    fs::canonicalize(file).map_or(false, |there| inputs.contains(&there))
+fn is_input(file: &Path, inputs: &Inputs) -> bool {
+    !read_of(file, inputs).is_empty()
+}
+
+/// The numbers of the recordings that this file is read of.
+fn read_of<'a>(file: &Path, inputs: &'a Inputs) -> &'a [usize] {
+    fs::canonicalize(file).ok().and_then(|there| inputs.get(&there)).map_or(&[], Vec::as_slice)
 }

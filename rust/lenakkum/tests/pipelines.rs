@@ -88,6 +88,72 @@ fn what_is_there_is_replaced_with_force_only() {
     assert_eq!(names(&folder), before);
 }
 
+/// Several are run at a time: what one leaves might take another's place before that is read.
+#[test]
+fn no_output_takes_another_recordings_place() {
+    let folder = folder("another");
+    for name in ["1.cf32", "2.cf32", "11.cf32", "far-2.cf32"] {
+        fs::write(folder.join(name), two()).unwrap();
+    }
+    symlink("11.cf32", folder.join("far-1.cf32")).unwrap();
+    sigmf(&folder, "3", serde_json::json!({ "core:dataset": "far-2.cf32" }), serde_json::json!([]), &two());
+    let (before, meta) = (names(&folder), fs::read(folder.join("3.sigmf-meta")).unwrap());
+    for (words, file) in [
+        ("2.cf32 1.cf32 --out {number}.cf32 --force", "1.cf32"),
+        ("2.cf32 1.cf32 --out ./{number}.cf32", "./1.cf32"),
+        // It is the recording itself, and the other too.
+        ("1.cf32 ./1.cf32 --out {number}.cf32 --force", "1.cf32"),
+        ("1.cf32 11.cf32 --out far-{number}.cf32 --force", "far-1.cf32"),
+        ("3.sigmf-meta 2.cf32 --out far-{number}.cf32 --force", "far-2.cf32"),
+        ("1.cf32 2.cf32 11.cf32 3.sigmf-meta --out {number}.sigmf-meta --force", "3.sigmf-data"),
+    ] {
+        let line = format!("{file}: it is another recording of this command, and is not replaced: name another file");
+        assert_wrong(&lenakkum(&folder, &format!("run {words} --rate 3000")), &format!("lenakkum: {line}\n"), words);
+    }
+    // Of pieces each is looked at, and the others are written.
+    let words = "run 2.cf32 11.cf32 --rate 3000 --pieces 2048samples --out {number}{piece}.cf32 --force";
+    let said = lenakkum(&folder, words);
+    assert!(text(&said.stderr).contains("lenakkum: 11.cf32: it is another recording of this command, and is not"));
+    assert_eq!((said.status.code(), fs::remove_file(folder.join("21.cf32")).is_ok()), (Some(2), true));
+    assert_eq!((names(&folder), fs::read(folder.join("3.sigmf-meta")).unwrap()), (before, meta));
+    for name in ["1.cf32", "2.cf32", "11.cf32", "far-2.cf32", "3.sigmf-data"] {
+        assert!(fs::read(folder.join(name)).unwrap() == two(), "{name}");
+    }
+    // Each in its own place is what --force is for.
+    let said = lenakkum(&folder, "run 1.cf32 2.cf32 --rate 3000 --out {number}.cf32 --force");
+    assert_eq!(said.status.code(), Some(0), "{}", text(&said.stderr));
+    assert!(["1.cf32", "2.cf32"].iter().all(|name| fs::read(folder.join(name)).unwrap() != two()));
+}
+
+/// By two names one file would be written twice, and what was first in it lost.
+#[test]
+fn no_file_is_written_twice() {
+    let folder = folder("twice");
+    fs::write(folder.join("two.cf32"), two()).unwrap();
+    fs::create_dir(folder.join("a")).unwrap();
+    symlink("a", folder.join("b")).unwrap();
+    fs::write(folder.join("there.html"), "there").unwrap();
+    symlink("there.html", folder.join("link.html")).unwrap();
+    let before = names(&folder);
+    let mut cases = vec![
+        ("--out x.html --page ./x.html", "x.html"),
+        ("--out a/../x.html --page x.html", "a/../x.html"),
+        ("--out b/x.html --page a/x.html", "b/x.html"),
+        ("--out there.html --page link.html --force", "there.html"),
+    ];
+    if cfg!(feature = "pictures") {
+        cases.extend([("--out x.svg --picture ./x.svg", "./x.svg"), ("--out ./x.svg --picture x.svg", "x.svg")]);
+    }
+    for (words, file) in cases {
+        let said = lenakkum(&folder, &format!("run two.cf32 --rate 3000 {words}"));
+        assert_wrong(&said, &format!("lenakkum: {file}: it would be written twice"), words);
+    }
+    assert_eq!((names(&folder), names(&folder.join("a"))), (before, vec![]));
+    // The same name in another folder is another file.
+    let said = lenakkum(&folder, "run two.cf32 --rate 3000 --out a/x.html --page x.html");
+    assert_eq!(said.status.code(), Some(0), "{}", text(&said.stderr));
+}
+
 /// What is written is f32 pairs, and would be read as something else by these names.
 #[test]
 fn names_that_do_not_fit_what_is_written() {
