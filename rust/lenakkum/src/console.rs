@@ -52,7 +52,7 @@ impl Console {
 
     /// A file is done.
     pub fn step(&mut self, name: &str) {
-        self.bar.set_message(name.to_string());
+        self.bar.set_message(problem::on_one_line(name));
         self.bar.inc(1);
     }
 
@@ -60,7 +60,7 @@ impl Console {
     pub fn end(self) -> ExitCode {
         self.bar.finish_and_clear();
         if self.outcomes > 1 && !self.problems.is_empty() {
-            error(&format!("lenakkum: {} of {} were not run:\n", self.problems.len(), self.outcomes));
+            error(&format!("lenakkum: {} of {} went wrong:\n", self.problems.len(), self.outcomes));
         }
         self.problems.iter().for_each(complain);
         problem::status(&self.problems)

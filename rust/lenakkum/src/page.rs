@@ -40,9 +40,19 @@ impl Section {
     }
 
     /// Of what was refused, or could not be read.
-    pub fn of_problem(title: &str, problem: &Problem) -> Section {
-        let html = format!("<p class=\"verdict\">It was not run: {}.</p>\n", escaped(&problem.to_string()));
-        Section { title: title.to_string(), brief: "not run".to_string(), html }
+    pub fn not_run(title: &str, problem: &Problem) -> Section {
+        Section::of_problem(title, "not run", "It was not run", problem)
+    }
+
+    /// Of a run that could not be written.
+    pub fn not_written(title: &str, problem: &Problem) -> Section {
+        let verdict = "It was run, and what came of it could not be written";
+        Section::of_problem(title, "run, and could not be written", verdict, problem)
+    }
+
+    fn of_problem(title: &str, brief: &str, verdict: &str, problem: &Problem) -> Section {
+        let html = format!("<p class=\"verdict\">{verdict}: {}.</p>\n", escaped(&problem.to_string()));
+        Section { title: title.to_string(), brief: brief.to_string(), html }
     }
 }
 

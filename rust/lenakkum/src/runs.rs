@@ -99,7 +99,7 @@ fn not_read(args: &Run, path: &Path, problem: Problem) -> Outcome {
         Form::Csv => tables::csv_of_problem(&name, None, &problem),
         Form::Report | Form::Line => String::new(),
     };
-    let section = args.page.as_ref().map(|_| Section::of_problem(&name, &problem));
+    let section = args.page.as_ref().map(|_| Section::not_run(&name, &problem));
     Outcome { said, left: None, problem: Some(problem), section }
 }
 
@@ -115,21 +115,23 @@ fn ran(
     let before = if drawn { samples.clone() } else { Vec::new() };
     workspace.make_room(samples.len(), subject.rate);
     let ran = workspace.run(&mut samples, subject.rate, args.hint).map_err(|r| Problem::Refused(subject.title(), r));
-    let written = ran.and_then(|ran| {
-        written(args, &subject, &before, &samples, &ran, of)?;
-        Ok((section(args, &subject, &before, &samples, &ran)?, ran))
-    });
     let left = |samples: &[Complex32]| args.to_standard_output().then(|| writing::bytes(samples));
-    match written {
-        Ok((section, ran)) => {
-            Outcome { said: said(args, &subject, &ran), left: left(&samples), problem: None, section }
-        }
-        Err(problem) => {
-            // A refused piece goes on as it came, so that those after it stand where they stood.
-            let left = subject.piece.and_then(|_| left(&samples));
-            let section = args.page.as_ref().map(|_| Section::of_problem(&subject.title(), &problem));
-            Outcome { said: said_of(args, &subject, &problem), left, problem: Some(problem), section }
-        }
+    let wrong = |problem: Problem, of_page: fn(&str, &Problem) -> Section| {
+        // A refused piece goes on as it came, so that those after it stand where they stood.
+        let left = subject.piece.and_then(|_| left(&samples));
+        let section = args.page.as_ref().map(|_| of_page(&subject.title(), &problem));
+        Outcome { said: said_of(args, &subject, &problem), left, problem: Some(problem), section }
+    };
+    let ran = match ran {
+        Ok(ran) => ran,
+        Err(problem) => return wrong(problem, Section::not_run),
+    };
+    // What a page has comes first: where it cannot be made, no file is written either.
+    let section = section(args, &subject, &before, &samples, &ran)
+        .and_then(|section| written(args, &subject, &before, &samples, &ran, of).map(|()| section));
+    match section {
+        Ok(section) => Outcome { said: said(args, &subject, &ran), left: left(&samples), problem: None, section },
+        Err(problem) => wrong(problem, Section::not_written),
     }
 }
 

@@ -72,7 +72,7 @@ fn several_files() {
     let lines = text(&said.stdout);
     assert_eq!(lines.lines().count(), 2);
     assert!(lines.starts_with("one.cf32: one, kept") && lines.contains("\ntwo.cf32: two ("), "{lines}");
-    assert!(text(&said.stderr).starts_with("lenakkum: 1 of 3 were not run:\n"));
+    assert!(text(&said.stderr).starts_with("lenakkum: 1 of 3 went wrong:\n"));
     assert!(text(&said.stderr).contains("lenakkum: wild.cf32: refused (3): a sample is infinite or not a number"));
     assert_eq!(said.status.code(), Some(1));
 }

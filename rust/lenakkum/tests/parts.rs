@@ -81,7 +81,7 @@ fn what_is_left_of_pieces() {
     let said = lenakkum(&folder, "run long.cf32 --rate 3000 --pieces 2048samples --out left-{piece}.cf32");
     assert_eq!((said.status.code(), text(&said.stdout).matches("(piece ").count()), (Some(2), 2));
     assert!(
-        text(&said.stderr).contains("1 of 3 were not run") && text(&said.stderr).contains("left-2.cf32: it is there")
+        text(&said.stderr).contains("1 of 3 went wrong") && text(&said.stderr).contains("left-2.cf32: it is there")
     );
     assert!(fs::read(folder.join("left-3.cf32")).unwrap() == left);
     // A piece that is refused goes on as it came, and the others are run.

@@ -212,6 +212,31 @@ fn a_page_of_nothing_that_was_run() {
     assert!(page().contains("It was not run: none.cf32: No such file"));
 }
 
+/// What was run and could not be written is not called one that was not run, neither on a page nor at the end.
+#[test]
+fn a_page_of_what_could_not_be_written() {
+    let folder = folder("page_unwritten");
+    fs::write(folder.join("one.cf32"), one()).unwrap();
+    fs::write(folder.join("wild.cf32"), bytes([(f64::NAN, 0.0)])).unwrap();
+    let words = "run one.cf32 wild.cf32 none.cf32 --rate 3000 --out none/{name}.cf32 --page page.html";
+    let said = lenakkum(&folder, words);
+    assert_eq!((said.status.code(), text(&said.stdout)), (Some(2), String::new()));
+    assert!(text(&said.stderr).starts_with("lenakkum: 3 of 3 went wrong:\nlenakkum: none/one.cf32: No such file"));
+    let page = fs::read_to_string(folder.join("page.html")).unwrap();
+    let sections: Vec<&str> = page.split("<section ").skip(1).collect();
+    for (section, verdict) in sections.iter().zip([
+        "It was run, and what came of it could not be written: none/one.cf32: No such file",
+        "It was not run: wild.cf32: refused (3): ",
+        "It was not run: none.cf32: No such file",
+    ]) {
+        assert!(section.contains(&format!("<p class=\"verdict\">{verdict}")), "{section}");
+    }
+    for (i, brief) in ["run, and could not be written", "not run", "not run"].iter().enumerate() {
+        assert!(page.contains(&format!("<a href=\"#r{i}\">")) && page.contains(&format!("</a></th><td>{brief}</td>")));
+    }
+    assert_eq!((sections.len(), page.matches("<td>not run</td>").count()), (3, 2));
+}
+
 /// On paper each recording begins a new sheet.
 #[test]
 fn a_page_is_printed_with_a_sheet_for_each_recording() {

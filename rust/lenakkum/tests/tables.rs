@@ -86,7 +86,7 @@ fn json_has_a_line_for_every_file() {
     let folder = recordings("json");
     let said = lenakkum(&folder, &format!("run {ALL} --rate 3000 --json"));
     assert_eq!(said.status.code(), Some(2));
-    assert!(text(&said.stderr).starts_with("lenakkum: 2 of 4 were not run:\n"));
+    assert!(text(&said.stderr).starts_with("lenakkum: 2 of 4 went wrong:\n"));
     let lines = json_lines(&said);
     let column = |name: &str| lines.iter().map(|line| line[name].clone()).collect::<Vec<_>>();
     assert_eq!(column("file"), ["one.cf32", "none.cf32", "wild.cf32", "two.cf32"]);
