@@ -58,6 +58,8 @@ fn is_tar(path: &Path, file: &mut File) -> Result<(), Problem> {
     file.take(content::LOOKED_AT as u64).read_to_end(&mut first).map_err(|e| wrong(&e))?;
     match content::kind(&first, true) {
         Some(Kind::Tar) => Ok(()),
+        // What to do about a text in the place of bare samples does not help with an archive.
+        Some(Kind::Text) => Err(wrong(&"it is text, and it is not a tar archive, as SigMF's are")),
         Some(kind) => Err(kind.instead(path, Datatype::CF32_LE)),
         None if first.is_empty() => Err(wrong(&"it is empty")),
         None => Err(wrong(&"it is not a tar archive, as SigMF's are; bare samples have another ending, as .cf32")),

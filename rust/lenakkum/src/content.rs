@@ -139,6 +139,10 @@ fn heard(sound: &Sound, path: &Path) -> String {
     let kind = sound.kind;
     let (two, rate) = match sound.head {
         Some((1, _)) => return "it has one channel, and an I/Q recording has two".into(),
+        // Two channels are not coded apart from each other, and little is left of how I and Q stood to each other.
+        Some((2, _)) | None if kind == sound::OPUS => {
+            return "it keeps what an ear hears, which is no I/Q recording: run what it was made from".into()
+        }
         Some((2, rate)) => ("-c 2 -", rate.to_string()),
         Some((count, _)) => return format!("it has {count} channels, and an I/Q recording has two"),
         // Of one channel this makes nothing.

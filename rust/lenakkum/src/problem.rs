@@ -67,7 +67,9 @@ fn sentence(refusal: Refusal) -> String {
 /// characters, line ends and what turns the direction of writing are shown by their numbers.
 pub fn on_one_line(text: &str) -> String {
     let shown = |c: char| match c {
-        '\u{2028}'..='\u{202e}' | '\u{2066}'..='\u{2069}' => c.escape_default().to_string(),
+        '\u{61c}' | '\u{200e}' | '\u{200f}' | '\u{2028}'..='\u{202e}' | '\u{2066}'..='\u{2069}' => {
+            c.escape_default().to_string()
+        }
         c if c.is_control() => c.escape_default().to_string(),
         c => c.to_string(),
     };

@@ -14,6 +14,9 @@ pub const BW64: &str = "bw64";
 /// The one of these that sox does not read from a pipe.
 pub const W64: &str = "w64";
 
+/// The one of these of which no recording can be made.
+pub const OPUS: &str = "opus";
+
 /// The sound file that begins so.
 pub fn sound(first: &[u8]) -> Option<Sound> {
     let at = |place: usize, bytes: &[u8]| first.get(place..place + bytes.len()) == Some(bytes);
@@ -27,6 +30,7 @@ pub fn sound(first: &[u8]) -> Option<Sound> {
         b"dns." => au(first, little).and_then(|head| of("au", Some(head))),
         b"FORM" if at(8, b"AIFF") || at(8, b"AIFC") => of("aiff", aiff(first)),
         b"fLaC" => of("flac", flac(first)),
+        b"OggS" if at(28, b"OpusHead") => of(OPUS, opus(first)),
         b"OggS" => of("ogg", vorbis(first)),
         _ => None,
     }
@@ -87,4 +91,9 @@ fn flac(first: &[u8]) -> Option<(u64, f64)> {
 fn vorbis(first: &[u8]) -> Option<(u64, f64)> {
     (first.get(28..35)? == b"\x01vorbis").then_some(())?;
     Some((little(first, 39, 1)?, little(first, 40, 4)? as f64))
+}
+
+/// The rate that it is played at, whatever it was made from.
+fn opus(first: &[u8]) -> Option<(u64, f64)> {
+    Some((little(first, 37, 1)?, 48_000.0))
 }

@@ -101,6 +101,32 @@ fn the_head_of_a_wav() {
     }
 }
 
+/// What Opus leaves is no recording, and sox's reader of Vorbis would not read it: no command is named.
+#[test]
+fn opus_is_no_recording() {
+    let folder = folder("opus");
+    let opus = |channels: u8| {
+        let page = [&b"OggS\0\x02"[..], &[0; 20], b"\x01\x13"].concat();
+        let head = [&b"OpusHead\x01"[..], &[channels], b"\x38\x01", &8_000_u32.to_le_bytes(), &[0; 3]].concat();
+        [page, head, vec![7; 2_000]].concat()
+    };
+    for (channels, words) in [
+        (1, "it has one channel, and an I/Q recording has two\n"),
+        (2, "it keeps what an ear hears, which is no I/Q recording: run what it was made from\n"),
+        (6, "it has 6 channels, and an I/Q recording has two\n"),
+    ] {
+        for name in ["tank.opus", "tank.ogg", "tank.iq"] {
+            fs::write(folder.join(name), opus(channels)).unwrap();
+            let said = lenakkum(&folder, &format!("run {name} --rate 48000"));
+            assert_wrong(&said, &format!("lenakkum: {name}: it is a sound file (opus): {words}"), name);
+        }
+    }
+    // A head that is cut before its channels.
+    fs::write(folder.join("cut.opus"), &opus(2)[..37]).unwrap();
+    let said = lenakkum(&folder, "run cut.opus --rate 48000");
+    assert_wrong(&said, "it is a sound file (opus): it keeps what an ear hears", "cut");
+}
+
 /// An old head of a file in a tar archive, without a mark.
 fn old_tar(folder: &Path) -> Vec<u8> {
     made(folder, "tar --format=v7 -cf old.tar two.cf32");
@@ -229,7 +255,8 @@ fn what_is_compressed_can_be_run_by_what_is_said() {
 fn assert_plain(said: &Output, words: &str) {
     assert_wrong(said, words, words);
     let line = text(&said.stderr);
-    assert!(!line.trim_end_matches('\n').contains(|c: char| c.is_control() || c == '\u{202e}'), "{line:?}");
+    let turns = ['\u{61c}', '\u{200e}', '\u{200f}', '\u{202e}'];
+    assert!(!line.trim_end_matches('\n').contains(|c: char| c.is_control() || turns.contains(&c)), "{line:?}");
 }
 
 #[test]
@@ -242,7 +269,7 @@ fn what_a_file_has_does_nothing_to_a_terminal() {
     for (name, words) in [
         ("zipped.sigmf", "it is compressed"),
         ("heard.sigmf", "it is a sound file (wav)"),
-        ("text.sigmf", "it is text"),
+        ("text.sigmf", "it is text, and it is not a tar archive, as SigMF's are"),
         ("bytes.sigmf", "it is not a tar archive, as SigMF's are"),
         ("empty.sigmf", "it is empty"),
     ] {
@@ -250,10 +277,13 @@ fn what_a_file_has_does_nothing_to_a_terminal() {
         let said = json_lines(&lenakkum(&folder, &format!("run {name} --json"))).remove(0);
         let problem = said["problem"].as_str().unwrap();
         assert!(problem.contains(words) && !problem.contains(char::is_control), "{problem:?}");
+        // What to do with bare samples is no advice on an archive.
+        assert!(!problem.contains("pairs of f32"), "{problem:?}");
     }
     for (global, captures, words) in [
         (json!({ "core:datatype": "c\u{1b}[31m\n" }), json!([]), r"c\u{1b}[31m\n"),
         (json!({ "core:dataset": "a\u{9b}\u{202e}b" }), json!([]), r"a\u{9b}\u{202e}b: No such file"),
+        (json!({ "core:dataset": "a\u{61c}\u{200e}\u{200f}b" }), json!([]), r"a\u{61c}\u{200e}\u{200f}b: No such file"),
         (json!({}), json!([{ "core:datetime": "now\n(run 0)" }]), "a capture: core:datetime is not a date"),
     ] {
         sigmf(&folder, "odd", global, captures, &one());
