@@ -304,4 +304,8 @@ fn names_that_have_control_characters() {
     assert!(lines.lines().count() == 2 && lines.starts_with(r"a\u{1b}[31m\nb.cf32: two ("), "{lines}");
     let said = bash(&folder, r"lenakkum run $'a\e[31m\nb.cf32' --rate 100");
     assert!(text(&said.stderr).starts_with(r"lenakkum: a\u{1b}[31m\nb.cf32: refused (1): "));
+    // On a terminal there is a bar with the name of the last that is done.
+    let said = bash(&folder, "script -qec 'lenakkum run a*b.cf32 two.cf32 --rate 3000' /dev/null </dev/null");
+    let shown = text(&said.stdout);
+    assert!(shown.contains(r"1/2 a\u{1b}[31m\nb.cf32") && !shown.contains("\u{1b}[31m"), "{shown:?}");
 }
