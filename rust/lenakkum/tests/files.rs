@@ -374,7 +374,7 @@ fn a_pair_that_is_written_keeps_its_captures() {
     };
     // The receiver stood still between them: dates do not follow from the first.
     let captures = json!([at(0, 0), at(3_000, 10), at(6_000, 30)]);
-    sigmf(&folder, "three", json!({}), captures.clone(), &bytes([(0.5, 0.25); 7_000]));
+    sigmf(&folder, "three", json!({}), captures.clone(), &bytes(vec![(0.5, 0.25); 7_000]));
     let written = |words: &str| -> Vec<(u64, String)> {
         let said = lenakkum(&folder, &format!("run three.sigmf-meta {words} --out left.sigmf-meta --force"));
         assert_eq!(said.status.code(), Some(0), "{words}: {}", text(&said.stderr));
