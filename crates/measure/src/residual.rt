@@ -71,7 +71,7 @@ fn ratio_db(num: Percentile, den: Percentile) -> f64
 }
 
 // Rust: the ResidualCheck at the end of residual_check.
-fn figures(edge: Level, interior: Level, gap: Level) -> ResidualCheck
+fn check_of(edge: Level, interior: Level, gap: Level) -> ResidualCheck
     ensures { λ r. ⌜ r ≡ figuresFrom edge interior gap ⌝ }
 {
     let e = edge.value;
@@ -103,7 +103,7 @@ pub fn residual(
         × (take (SIDES * grid .blocks) (now (work .exit)) ≡ take (SIDES * grid .blocks) (now (work .entry))) ⌝ }
 {
     let blocks = grid.blocks;
-    subtract_from_means(work, blocks, fits, count, grid.fs, grid.window, sine);
+    subtract_from_means(work, grid, fits, count, sine);
     let at = ZLEFT * blocks;
     let codes = CLASSES * blocks;
     let out = POWERS * blocks;
@@ -118,7 +118,7 @@ pub fn residual(
         out,
         NEIGHBOUR_PERCENTILE,
     );
-    figures(edge, interior, gap)
+    check_of(edge, interior, gap)
 }
 
 // Rust: residual_check. The estimate is its carrier, and its elements and fits, each in a list with its count.

@@ -1,6 +1,7 @@
 // What is left of the blocks' means once the fits are subtracted. Rust: lines 486 to 491 of cancel.rs, the loop over
 // the fits in residual_check, which finds each sample's block by a division; here each block of a span is done at one
 // go.
+use crate::prepare::Grid;
 use crate::sections::LEFT;
 use crate::sections::POWERS;
 use complex::Complex;
@@ -52,7 +53,7 @@ fn most(a: usize, b: usize) -> usize
 }
 
 // The same at those of the len samples from `from` on that a span covers.
-fn subtract_span(
+fn subtract_covered(
     z: Complex,
     f: ElementFit,
     s: Span,
@@ -96,32 +97,24 @@ fn subtract_fit(
     let mut from = b * len;
     while from < hi {
         let z = complex::get(row, b);
-        complex::put(row, b, subtract_span(z, f, s, fs, from, len, sine));
+        complex::put(row, b, subtract_covered(z, f, s, fs, from, len, sine));
         b = b + 1;
         from = from + len;
     }
 }
 
 // Less all fits of a list, in order.
-fn subtract_fits(
-    row: &mut [f64],
-    blocks: usize,
-    fits: &[f64],
-    count: usize,
-    fs: f64,
-    len: usize,
-    sine: &[f64; 1025],
-)
+fn subtract_fits(row: &mut [f64], grid: Grid, fits: &[f64], count: usize, sine: &[f64; 1025])
     requires { ⌜ now sine ≡ quarterSines ⌝ }
-    requires { ⌜ 0 < len ⌝ }
-    requires { ⌜ blocks * len ≤ 1048576 ⌝ }
-    requires { ⌜ length (now row) ≡ 2 * blocks ⌝ }
+    requires { ⌜ 0 < grid .window ⌝ }
+    requires { ⌜ grid .blocks * grid .window ≤ 1048576 ⌝ }
+    requires { ⌜ length (now row) ≡ 2 * grid .blocks ⌝ }
     requires { ⌜ FIT * count ≤ length (now fits) ⌝ }
-    ensures { λ _. ⌜ ((b : ℕ) → b < blocks → zAt (now (row .exit)) b ≡ lessFits fs len blocks (fitsIn (now (fits .entry)) count) b (zAt (now (row .entry)) b)) ⌝ }
+    ensures { λ _. ⌜ ((b : ℕ) → b < grid .blocks → zAt (now (row .exit)) b ≡ lessFits (grid .fs) (grid .window) (grid .blocks) (fitsIn (now (fits .entry)) count) b (zAt (now (row .entry)) b)) ⌝ }
 {
     for k in 0..count {
         let f = fit_at(fits, k);
-        subtract_fit(row, blocks, f, fs, len, sine);
+        subtract_fit(row, grid.blocks, f, grid.fs, grid.window, sine);
     }
 }
 
@@ -139,22 +132,21 @@ fn copy_means(work: &mut [f64], blocks: usize)
 // What is left of the means at the start of the work slice, in its section.
 pub fn subtract_from_means(
     work: &mut [f64],
-    blocks: usize,
+    grid: Grid,
     fits: &[f64],
     count: usize,
-    fs: f64,
-    len: usize,
     sine: &[f64; 1025],
 )
     requires { ⌜ now sine ≡ quarterSines ⌝ }
-    requires { ⌜ 0 < len ⌝ }
-    requires { ⌜ blocks * len ≤ 1048576 ⌝ }
-    requires { ⌜ POWERS * blocks ≤ length (now work) ⌝ }
+    requires { ⌜ 0 < grid .window ⌝ }
+    requires { ⌜ grid .blocks * grid .window ≤ 1048576 ⌝ }
+    requires { ⌜ POWERS * grid .blocks ≤ length (now work) ⌝ }
     requires { ⌜ FIT * count ≤ length (now fits) ⌝ }
-    ensures { λ _. ⌜ Lessened (now (work .entry)) (now (work .exit)) (λ b. lessFits fs len blocks (fitsIn (now (fits .entry)) count) b (zAt (now (work .entry)) b)) blocks ⌝ }
+    ensures { λ _. ⌜ Lessened (now (work .entry)) (now (work .exit)) (λ b. lessFits (grid .fs) (grid .window) (grid .blocks) (fitsIn (now (fits .entry)) count) b (zAt (now (work .entry)) b)) (grid .blocks) ⌝ }
 {
+    let blocks = grid.blocks;
     copy_means(work, blocks);
     let from = LEFT * blocks;
     let past = POWERS * blocks;
-    subtract_fits(&mut work[from..past], blocks, fits, count, fs, len, sine);
+    subtract_fits(&mut work[from..past], grid, fits, count, sine);
 }

@@ -48,7 +48,7 @@ returns c =
     record { value = edge .0; count = edge .1; kept = edge .2 }
     record { value = interior .0; count = interior .1; kept = interior .2 }
     record { value = rw neighbour-percentile-bits (gap .0); count = gap .1; kept = gap .2 }
-    (c .figures .ensures)
+    (c .check-of .ensures)
 
 pub residual-spec : {M : Type 1} → statement M
 residual-spec =

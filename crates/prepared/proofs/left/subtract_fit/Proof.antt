@@ -52,7 +52,7 @@ loop-again c =
       inv .2,
       omega (arith, inv .3, suc-mul (turn .before .loop .b) (turn .before .before .before .before .before .args .len)),
       search needs,
-      turned-turn _ _ _ _ _ (inv .2) _ _ _ _ _ _ _ (inv .5) (inv .3) (got .get .ensures) (less .subtract-span .ensures) (c .before .before .put .ensures) (omega arith),
+      turned-turn _ _ _ _ _ (inv .2) _ _ _ _ _ _ _ (inv .5) (inv .3) (got .get .ensures) (less .subtract-covered .ensures) (c .before .before .put .ensures) (omega arith),
     )
 
 returns : tie.Need-returns Inv-loop μ-loop

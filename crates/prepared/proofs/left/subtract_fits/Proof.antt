@@ -11,11 +11,11 @@ use Rattle.prepared.proofs.left.subtract_fits.Statement.{statement}
 use Rattle.prepared.proofs.left.subtract_fits.Tie as tie
 
 abbrev Inv-loop : tie.InvT-loop
-Inv-loop row₀ blocks fits count fs len sine k₀ row k =
-    (k ≤ count) × (length row ≡ length row₀) × ((b : ℕ) → b < blocks → zAt row b ≡ lessFits fs len blocks (fitsIn fits k) b (zAt row₀ b))
+Inv-loop row₀ grid fits count sine k₀ row k =
+    (k ≤ count) × (length row ≡ length row₀) × ((b : ℕ) → b < grid .blocks → zAt row b ≡ lessFits (grid .fs) (grid .window) (grid .blocks) (fitsIn fits k) b (zAt row₀ b))
 
 abbrev μ-loop : tie.MeasureT-loop
-μ-loop row₀ blocks fits count fs len sine k₀ row k = count - k
+μ-loop row₀ grid fits count sine k₀ row k = count - k
 
 loop-holds : tie.Need-loop-holds Inv-loop μ-loop
 loop-holds c = (search needs, search needs, λ b h. fits-none _ _ _ _ _ _)

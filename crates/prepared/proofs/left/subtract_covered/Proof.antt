@@ -1,7 +1,7 @@
 use borrow.Author.Needs.{needs}
 use Rattle.prepared.proofs.Less.{span-some, span-none}
-use Rattle.prepared.proofs.left.subtract_span.Statement.{statement}
-use Rattle.prepared.proofs.left.subtract_span.Tie as tie
+use Rattle.prepared.proofs.left.subtract_covered.Statement.{statement}
+use Rattle.prepared.proofs.left.subtract_covered.Tie as tie
 
 returns : tie.Need-returns
 returns c =
@@ -11,8 +11,8 @@ returns c =
 returns-2 : tie.Need-returns-2
 returns-2 c = span-none _ _ _ _ _ _ _ _ (c .before .before .most .ensures) (c .before .least .ensures) (c .if1 .left)
 
-pub subtract-span-spec : {M : Type 1} → statement M
-subtract-span-spec =
+pub subtract-covered-spec : {M : Type 1} → statement M
+subtract-covered-spec =
     tie.close
     (tie.spec
     (λ c. search needs)
