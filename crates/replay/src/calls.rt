@@ -30,7 +30,7 @@ use stored::answer::kept_same;
 use stored::answer::left_same;
 use stored::answer::refused_same;
 use stored::asked::Asked;
-use stored::asked::figures;
+use stored::asked::figures_from;
 use stored::equal::changed;
 use stored::equal::same_figures;
 use stored::units::double;
@@ -53,7 +53,7 @@ fn refused(a: Asked, no: u64, elements: &[f64], fits: &[f64], work: &[f64]) -> A
 }
 
 fn figured(a: Asked, answer: &[f64], body: &[u8]) -> bool {
-    figured_same(a.no, answer, figures(body, FIGURES))
+    figured_same(a.no, answer, figures_from(body, FIGURES))
 }
 
 fn found(a: Asked, f: Found, body: &[u8], elements: &[f64], stored: &[f64]) -> bool {
@@ -225,7 +225,7 @@ pub fn classify(body: &[u8]) -> Answered {
         coherence: double(body, 8),
     };
     let answer = of_hypothesis(cancel::classify(e));
-    done(same_figures(&answer, figures(body, CLASSIFY_ANSWER)))
+    done(same_figures(&answer, figures_from(body, CLASSIFY_ANSWER)))
 }
 
 // The buffer holds the recording.

@@ -48,7 +48,7 @@ pub fn of_case(body: &[u8]) -> Asked {
 }
 
 // The figures of the Rust's answer, which follow from byte `from` on.
-pub fn figures(body: &[u8], from: usize) -> &[u8] {
+pub fn figures_from(body: &[u8], from: usize) -> &[u8] {
     if from <= body.len() {
         &body[from..]
     } else {
