@@ -2,8 +2,9 @@
 
 use crate::questions::{LARGEST, POSITIONS};
 use crate::random::Random;
-use crate::records::{ELEMENT, FIT};
+use crate::records::{Element, Fit, DOWN, ELEMENT, END, FIT, GAIN_IM, GAIN_RE, REFERENCE, SLOPE, START, UP};
 use crate::scene::{Given, Recording};
+use num_complex::Complex64;
 
 /// The recording's own estimate or one made from it, in lists that may be longer than the count.
 pub fn estimate(rec: &Recording, r: &mut Random) -> Given {
@@ -61,16 +62,17 @@ fn made_up(est: &mut Given, rec: &Recording, r: &mut Random) {
     let element = |r: &mut Random| {
         let start = r.between(-0.2 * n, 1.1 * n);
         let end = start + r.between(-0.05, 0.4) * n;
-        [start, end, position(r), position(r)]
+        let (up, down) = (position(r), position(r));
+        Element { start, end, up, down }
     };
-    est.elements = (0..est.element_count).flat_map(|_| element(r)).collect();
+    est.elements = (0..est.element_count).flat_map(|_| element(r).flat()).collect();
     est.fits.clear();
     for _ in 0..est.fit_count {
-        est.fits.extend(element(r));
-        let gain = [r.between(-1.0, 1.0), r.between(-1.0, 1.0)];
+        let element = element(r);
+        let gain = Complex64::new(r.between(-1.0, 1.0), r.between(-1.0, 1.0));
         let slope = r.between(-0.1, 0.1);
         let reference = r.between(0.0, n);
-        est.fits.extend([gain[0], gain[1], slope, reference]);
+        est.fits.extend(Fit { element, gain, slope, reference }.flat());
     }
     est.carrier_hz = r.between(-1.0, 1.0) * rec.fs;
 }
@@ -98,20 +100,20 @@ pub fn hard(rec: &Recording) -> Vec<(&'static str, Given)> {
     vec![
         ("each twice", twice),
         ("from the last to the first", backwards),
-        each("before the recording", &|f| (f[0], f[1]) = (f[0] - n, f[1] - n)),
-        each("after the recording", &|f| (f[0], f[1]) = (f[0] + n, f[1] + n)),
-        each("ending at the last sample", &|f| (f[0], f[1]) = (f[0] - f[1] + n - 1.0, n - 1.0)),
-        each("ending where the blocks end", &|f| f[1] = n - 13.0),
-        each("ended before it starts", &|f| f.swap(0, 1)),
-        each("of no length", &|f| f[1] = f[0]),
-        few("from the least number on", &|f| f[0] = -LARGEST),
-        few("to the largest number", &|f| f[1] = LARGEST),
-        few("from the least to the largest number", &|f| (f[0], f[1]) = (-LARGEST, LARGEST)),
-        few("of the largest gain", &|f| (f[4], f[5]) = (LARGEST, -LARGEST)),
-        few("of the least gain", &|f| (f[4], f[5]) = (5e-324, -0.0)),
-        few("of the largest slope", &|f| f[6] = LARGEST),
-        few("of the largest reference", &|f| f[7] = -LARGEST),
-        few("of the largest slope and reference", &|f| (f[6], f[7]) = (-LARGEST, LARGEST)),
+        each("before the recording", &|f| (f[START], f[END]) = (f[START] - n, f[END] - n)),
+        each("after the recording", &|f| (f[START], f[END]) = (f[START] + n, f[END] + n)),
+        each("ending at the last sample", &|f| (f[START], f[END]) = (f[START] - f[END] + n - 1.0, n - 1.0)),
+        each("ending where the blocks end", &|f| f[END] = n - 13.0),
+        each("ended before it starts", &|f| f.swap(START, END)),
+        each("of no length", &|f| f[END] = f[START]),
+        few("from the least number on", &|f| f[START] = -LARGEST),
+        few("to the largest number", &|f| f[END] = LARGEST),
+        few("from the least to the largest number", &|f| (f[START], f[END]) = (-LARGEST, LARGEST)),
+        few("of the largest gain", &|f| (f[GAIN_RE], f[GAIN_IM]) = (LARGEST, -LARGEST)),
+        few("of the least gain", &|f| (f[GAIN_RE], f[GAIN_IM]) = (5e-324, -0.0)),
+        few("of the largest slope", &|f| f[SLOPE] = LARGEST),
+        few("of the largest reference", &|f| f[REFERENCE] = -LARGEST),
+        few("of the largest slope and reference", &|f| (f[SLOPE], f[REFERENCE]) = (-LARGEST, LARGEST)),
         ("at the largest carrier", Given { carrier_hz: LARGEST, carrier_step_hz: -LARGEST, ..own.clone() }),
         ("at a carrier past the rate", Given { carrier_hz: -1.5 * rec.fs, ..own.clone() }),
     ]
@@ -121,31 +123,31 @@ pub fn hard(rec: &Recording) -> Vec<(&'static str, Given)> {
 fn pull_element(record: &mut [f64], rec: &Recording, r: &mut Random) {
     let n = rec.iq.len() as f64 / 2.0;
     match r.whole(0, 9) {
-        0 => record.swap(0, 1),
-        1 => record[0] -= r.between(0.0, n),
-        2 => record[1] += r.between(0.0, n),
-        3 => record[0] = number(r),
-        4 => record[1] = number(r),
+        0 => record.swap(START, END),
+        1 => record[START] -= r.between(0.0, n),
+        2 => record[END] += r.between(0.0, n),
+        3 => record[START] = number(r),
+        4 => record[END] = number(r),
         5 => {
-            record[0] += 2.0 * n;
-            record[1] += 2.0 * n;
+            record[START] += 2.0 * n;
+            record[END] += 2.0 * n;
         }
-        6 => record[1] = record[0],
+        6 => record[END] = record[START],
         7 => {
-            record[0] = record[0].round();
-            record[1] = record[1].round() + 0.5;
+            record[START] = record[START].round();
+            record[END] = record[END].round() + 0.5;
         }
         _ => {}
     }
     if r.chance(0.3) {
-        record[2] = position(r);
-        record[3] = position(r);
+        record[UP] = position(r);
+        record[DOWN] = position(r);
     }
 }
 
 fn pull_fit(record: &mut [f64], r: &mut Random) {
     if r.chance(0.5) {
-        let at = r.whole(4, FIT);
+        let at = r.whole(ELEMENT, FIT);
         record[at] = number(r);
     }
 }

@@ -4,7 +4,7 @@ use crate::questions::{
     steps, CARRIER, COUNT, GIVEN, LARGEST, LAST, MOST_FLOATS, PLACES, POSITIONS, RATE, SAMPLE, WORK,
 };
 use crate::random::Random;
-use crate::records::{ELEMENT, FIT};
+use crate::records::{DOWN, ELEMENT, FIT, UP};
 use crate::scene::Scene;
 
 /// Makes one to three of the questions answer no, wherever that can be done; most often one, and most often that about
@@ -127,7 +127,7 @@ fn wrong_number(list: &mut [f64], count: usize, record: usize, wrong: f64, r: &m
 
 fn wrong_position(list: &mut [f64], count: usize, record: usize, r: &mut Random) {
     if count > 0 && list.len() >= count * record {
-        let at = r.whole(0, count) * record + r.pick(&[2, 3]);
+        let at = r.whole(0, count) * record + r.pick(&[UP, DOWN]);
         list[at] = r.pick(&[POSITIONS, 0.5, -1.0, -5e-324, POSITIONS - 0.5, 1e30]);
     }
 }

@@ -1,7 +1,7 @@
 //! Document 01's seven questions. Each is asked only if those before it were answered with yes.
 
 use crate::by_stand_ins::way_in::edge_window;
-use crate::records::{ELEMENT, FIT};
+use crate::records::{DOWN, ELEMENT, FIT, UP};
 use crate::scene::Given;
 
 /// The questions' numbers, by the names that include/cancel.h has for their refusals.
@@ -111,9 +111,9 @@ fn records_hold(list: &[f64], count: usize, numbers: usize) -> bool {
     count <= list.len() / numbers && list.chunks_exact(numbers).take(count).all(record_holds)
 }
 
-/// In both kinds of record, up and down are the third and the fourth number.
+/// In both kinds of record, up and down are at the same places.
 fn record_holds(record: &[f64]) -> bool {
-    record.iter().all(|&x| in_range(x)) && position(record[2]) && position(record[3])
+    record.iter().all(|&x| in_range(x)) && position(record[UP]) && position(record[DOWN])
 }
 
 fn in_range(x: f64) -> bool {

@@ -4,7 +4,18 @@
 use crate::by_stand_ins::{ElementFit, KeyedElement, StrongEstimate};
 use num_complex::{Complex32, Complex64};
 
+/// The places of an element's numbers in its record, and how many they are.
+pub const START: usize = 0;
+pub const END: usize = 1;
+pub const UP: usize = 2;
+pub const DOWN: usize = 3;
 pub const ELEMENT: usize = 4;
+
+/// The same of a fit, whose record begins with its element's.
+pub const GAIN_RE: usize = ELEMENT;
+pub const GAIN_IM: usize = ELEMENT + 1;
+pub const SLOPE: usize = ELEMENT + 2;
+pub const REFERENCE: usize = ELEMENT + 3;
 pub const FIT: usize = ELEMENT + 4;
 
 #[derive(Debug, Clone, Copy)]
@@ -17,11 +28,16 @@ pub struct Element {
 
 impl Element {
     pub fn read(flat: &[f64]) -> Element {
-        Element { start: flat[0], end: flat[1], up: flat[2], down: flat[3] }
+        Element { start: flat[START], end: flat[END], up: flat[UP], down: flat[DOWN] }
     }
 
     pub fn flat(&self) -> [f64; ELEMENT] {
-        [self.start, self.end, self.up, self.down]
+        let mut flat = [0.0; ELEMENT];
+        flat[START] = self.start;
+        flat[END] = self.end;
+        flat[UP] = self.up;
+        flat[DOWN] = self.down;
+        flat
     }
 
     /// The Rust's record of it.
@@ -40,15 +56,17 @@ pub struct Fit {
 
 impl Fit {
     pub fn read(flat: &[f64]) -> Fit {
-        let [re, im, slope, reference] = std::array::from_fn(|i| flat[ELEMENT + i]);
-        Fit { element: Element::read(flat), gain: Complex64::new(re, im), slope, reference }
+        let gain = Complex64::new(flat[GAIN_RE], flat[GAIN_IM]);
+        Fit { element: Element::read(flat), gain, slope: flat[SLOPE], reference: flat[REFERENCE] }
     }
 
     pub fn flat(&self) -> [f64; FIT] {
         let mut flat = [0.0; FIT];
-        let (element, own) = flat.split_at_mut(ELEMENT);
-        element.copy_from_slice(&self.element.flat());
-        own.copy_from_slice(&[self.gain.re, self.gain.im, self.slope, self.reference]);
+        flat[..ELEMENT].copy_from_slice(&self.element.flat());
+        flat[GAIN_RE] = self.gain.re;
+        flat[GAIN_IM] = self.gain.im;
+        flat[SLOPE] = self.slope;
+        flat[REFERENCE] = self.reference;
         flat
     }
 
