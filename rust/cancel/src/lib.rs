@@ -34,6 +34,8 @@
 #![deny(unsafe_code, missing_docs)]
 
 mod answers;
+#[cfg(doctest)]
+mod callers;
 mod constants;
 mod figures;
 #[allow(unsafe_code)]
