@@ -13,6 +13,7 @@ use clap::{Parser, Subcommand};
 use std::collections::BTreeSet;
 use std::fs;
 use std::path::{Path, PathBuf};
+use std::sync::{Mutex, PoisonError};
 
 /// What the command line asks for.
 pub enum Wanted {
@@ -98,6 +99,9 @@ pub struct Run {
     /// The files that are read, where others are written.
     #[arg(skip)]
     inputs: Inputs,
+    /// Where files are written: the page, and what is written of recordings and pieces so far.
+    #[arg(skip)]
+    places: Mutex<BTreeSet<PathBuf>>,
 }
 
 /// How a run is reported.
@@ -196,21 +200,32 @@ impl Run {
         Ok(self)
     }
 
-    /// No file is to be written twice, by whatever names.
+    /// No file is to be written twice, by whatever names. What is written of the first piece is known at the start.
     fn once(&self) -> Result<(), Problem> {
-        let mut all: BTreeSet<PathBuf> = self.page.iter().map(|page| writing::place(page)).collect();
-        for (i, path) in self.files.iter().enumerate() {
-            let of = names::Of { path, number: i + 1, piece: 1 };
-            let out = self.out_file().map_or_else(Vec::new, |out| writing::files(&names::named(out, of)));
-            let picture = self.picture_file().map(|picture| names::named(picture, of));
-            for file in out.into_iter().chain(picture) {
-                if !all.insert(writing::place(&file)) {
-                    let why = "it would be written twice; {number} in its name tells recordings apart";
-                    return Err(Problem::with(file.display(), why));
-                }
-            }
-        }
-        Ok(())
+        self.page.iter().for_each(|page| {
+            self.is_new(page);
+        });
+        self.files
+            .iter()
+            .enumerate()
+            .try_for_each(|(i, path)| self.once_of(names::Of { path, number: i + 1, piece: 1 }))
+    }
+
+    fn once_of(&self, of: names::Of<'_>) -> Result<(), Problem> {
+        let out = self.out_file().map_or_else(Vec::new, |out| writing::files(&names::named(out, of)));
+        let picture = self.picture_file().map(|picture| names::named(picture, of));
+        out.into_iter().chain(picture).find(|file| !self.is_new(file)).map_or(Ok(()), |file| {
+            let apart = match self.pieces {
+                None => "{number} in its name tells recordings apart",
+                Some(_) => "{number}-{piece} in its name tells recordings and pieces apart",
+            };
+            Err(Problem::with(file.display(), format!("it would be written twice; {apart}")))
+        })
+    }
+
+    /// Is nothing else written where this file is? From now on it is.
+    fn is_new(&self, file: &Path) -> bool {
+        self.places.lock().unwrap_or_else(PoisonError::into_inner).insert(writing::place(file))
     }
 
     /// No recording that is there is to be replaced, unless that is said.
@@ -226,8 +241,11 @@ impl Run {
         })
     }
 
-    /// May these files be written, seeing what is there?
+    /// May these files be written, seeing what is there and what else is written?
     pub fn may_be_written(&self, of: names::Of<'_>) -> Result<(), Problem> {
+        if of.piece > 1 {
+            self.once_of(of)?;
+        }
         if let Some(out) = self.out_file() {
             let out = names::named(out, of);
             writing::no_other(&out, of.number, &self.inputs)?;

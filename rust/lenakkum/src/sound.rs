@@ -8,8 +8,9 @@ pub struct Sound {
     pub head: Option<(u64, f64)>,
 }
 
-/// The one sound file of these that sox does not read.
+/// Two of these that sox does not read.
 pub const BW64: &str = "bw64";
+pub const OTHER_OGG: &str = "ogg, not of Vorbis";
 
 /// The one of these that sox does not read from a pipe.
 pub const W64: &str = "w64";
@@ -31,7 +32,8 @@ pub fn sound(first: &[u8]) -> Option<Sound> {
         b"FORM" if at(8, b"AIFF") || at(8, b"AIFC") => of("aiff", aiff(first)),
         b"fLaC" => of("flac", flac(first)),
         b"OggS" if at(28, b"OpusHead") => of(OPUS, opus(first)),
-        b"OggS" => of("ogg", vorbis(first)),
+        b"OggS" if at(28, b"\x01vorbis") => of("ogg", vorbis(first)),
+        b"OggS" => of(OTHER_OGG, None),
         _ => None,
     }
 }
@@ -89,7 +91,6 @@ fn flac(first: &[u8]) -> Option<(u64, f64)> {
 }
 
 fn vorbis(first: &[u8]) -> Option<(u64, f64)> {
-    (first.get(28..35)? == b"\x01vorbis").then_some(())?;
     Some((little(first, 39, 1)?, little(first, 40, 4)? as f64))
 }
 

@@ -127,6 +127,21 @@ fn opus_is_no_recording() {
     assert_wrong(&said, "it is a sound file (opus): it keeps what an ear hears", "cut");
 }
 
+/// Of what else stands in Ogg sox reads nothing: no command is named.
+#[test]
+fn ogg_without_vorbis_is_not_sent_to_sox() {
+    let folder = folder("other_ogg");
+    let page = [&b"OggS\0\x02"[..], &[0; 20], b"\x01\x33"].concat();
+    for head in [&b"\x7fFLAC\x01\0\0\x01fLaC"[..], b"Speex   1.2", b"\x80theora", b""] {
+        fs::write(folder.join("tank.ogg"), [&page[..], head, &[7; 2_000]].concat()).unwrap();
+        let words =
+            "it is a sound file (ogg, not of Vorbis): if its two channels are I and Q, write them anew as pairs of \
+                     f32 (sox does not read it)";
+        assert_wrong(&lenakkum(&folder, "run tank.ogg"), &format!("lenakkum: tank.ogg: {words}\n"), words);
+        assert!(!bash(&folder, "sox tank.ogg -n").status.success());
+    }
+}
+
 /// An old head of a file in a tar archive, without a mark.
 fn old_tar(folder: &Path) -> Vec<u8> {
     made(folder, "tar --format=v7 -cf old.tar two.cf32");

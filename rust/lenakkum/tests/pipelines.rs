@@ -154,6 +154,34 @@ fn no_file_is_written_twice() {
     assert_eq!(said.status.code(), Some(0), "{}", text(&said.stderr));
 }
 
+/// Of pieces each is looked at when its turn comes: neither the page nor another piece takes its place.
+#[test]
+fn no_piece_takes_the_place_of_another() {
+    let folder = folder("twice_of_pieces");
+    fs::write(folder.join("long.cf32"), [two(), two(), two()].concat()).unwrap();
+    fs::write(folder.join("long1.cf32"), &two()[..8 * 512]).unwrap();
+    let twice = "it would be written twice; {number}-{piece} in its name tells recordings and pieces apart\n";
+    let ran = |words: &str, lines: &str| {
+        let said = lenakkum(&folder, &format!("run {words} --rate 3000 --force"));
+        assert_eq!(said.status.code(), Some(2), "{words}");
+        assert!(text(&said.stderr).contains(lines), "{words}: {}", text(&said.stderr));
+        said
+    };
+    let said =
+        ran("long.cf32 --pieces 2048samples --out {piece}.html --page 2.html", &format!("lenakkum: 2.html: {twice}"));
+    assert_eq!(text(&said.stdout).matches("(piece ").count(), 2);
+    let page = fs::read_to_string(folder.join("2.html")).unwrap();
+    assert!(page.contains("could not be written: 2.html: it would be written twice"));
+    assert!(["1.html", "3.html"].iter().all(|name| fs::read(folder.join(name)).unwrap().len() == two().len()));
+    // Piece 11 of one recording and piece 1 of another, in whatever order they are run.
+    for files in ["long.cf32 long1.cf32", "long1.cf32 long.cf32"] {
+        let words = format!("{files} --pieces 512samples --out {{name}}{{piece}}.iq");
+        ran(&words, &format!("lenakkum: 1 of 13 went wrong:\nlenakkum: long11.iq: {twice}"));
+        let left = fs::read(folder.join("long11.iq")).unwrap();
+        assert!(left == two()[..8 * 512], "{files}");
+    }
+}
+
 /// What is written is f32 pairs, and would be read as something else by these names.
 #[test]
 fn names_that_do_not_fit_what_is_written() {
