@@ -54,7 +54,7 @@ fn compare(k: usize, piece: usize, stored: &[u8]) {
     let length = report::report_read(&bytes, came, &mut out);
     name(k);
     say(b" (the last read asked for ");
-    io::print_decimal(STDOUT_FILENO, came.asked as u64);
+    io::print_decimal(STDOUT_FILENO, came.asked() as u64);
     say(b" bytes)");
     if check::same(&out[..length], stored) {
         say(b": its report is as stored\n");

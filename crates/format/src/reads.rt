@@ -13,11 +13,26 @@ pub struct Read {
 }
 
 // What came of an input: how many bytes it counts as having, and of the read that ended it how many bytes were there
-// before it and how many it asked for.
+// before it and how many it asked for. Its fields are open to this file alone too, so that no program hands on a count
+// of its own.
 pub struct Came {
-    pub count: usize,
-    pub there: usize,
-    pub asked: usize,
+    count: usize,
+    there: usize,
+    asked: usize,
+}
+
+impl Came {
+    pub fn count(self) -> usize
+        ensures { λ r. ⌜ r ≡ self .count ⌝ }
+    {
+        self.count
+    }
+
+    pub fn asked(self) -> usize
+        ensures { λ r. ⌜ r ≡ self .asked ⌝ }
+    {
+        self.asked
+    }
 }
 
 // What a read means for the whole input.

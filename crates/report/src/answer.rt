@@ -76,14 +76,15 @@ fn report_first(bytes: &[u8], n: usize, out: &mut [u8; ROOM]) -> usize
     report(bytes, out)
 }
 
-// What the programs ask of the array into which a recording was read, and of what came: that is handed over whole, so
-// that no program chooses which of its numbers is the count. A count beyond the array counts as a full one, and a full
-// one holds more than a recording may have.
+// What the programs ask of the array into which a recording was read, and of what came: that is handed over whole, and
+// only a reading makes it, so that no program chooses the count. A count beyond the array counts as a full one, and a
+// full one holds more than a recording may have.
 pub fn report_read(bytes: &[u8; INPUT], came: Came, out: &mut [u8; ROOM]) -> usize
     ensures { λ r. ⌜ Counts r (now (out .exit)) ⌝ }
     ensures { λ r. ⌜ (r ≡ length (reportOf (take (came .count) (now (bytes .entry)))))
         × (now (out .exit) ≡ reportOf (take (came .count) (now (bytes .entry))) ++ drop (length (reportOf (take (came .count) (now (bytes .entry))))) (now (out .entry))) ⌝ }
     ensures { λ r. ⌜ (INPUT ≤ came .count → reportOf (take (came .count) (now (bytes .entry))) ≡ refusal REFUSED_COUNT) ⌝ }
 {
-    report_first(bytes, came.count, out)
+    let n = came.count();
+    report_first(bytes, n, out)
 }
