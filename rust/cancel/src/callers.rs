@@ -14,7 +14,7 @@
 /// }
 /// ```
 ///
-/// ```compile_fail,E0004
+/// ```compile_fail
 /// fn alone(found: cancel::Hypothesis) -> bool {
 ///     use cancel::Hypothesis::*;
 ///     match found {
@@ -38,7 +38,7 @@ struct HypothesisMayGrow;
 /// }
 /// ```
 ///
-/// ```compile_fail,E0004
+/// ```compile_fail
 /// fn measured(class: cancel::BlockClass) -> bool {
 ///     use cancel::BlockClass::*;
 ///     match class {
@@ -62,7 +62,7 @@ struct BlockClassMayGrow;
 /// }
 /// ```
 ///
-/// ```compile_fail,E0004
+/// ```compile_fail
 /// fn of_the_recording(refusal: cancel::Refusal) -> bool {
 ///     use cancel::Refusal::*;
 ///     match refusal {
@@ -73,39 +73,40 @@ struct BlockClassMayGrow;
 /// ```
 struct RefusalMayGrow;
 
-/// A run may have figures that are not known yet: they are not made by a caller, nor taken apart without `..`.
+/// A run may have figures that are not known yet.
 ///
 /// ```
-/// fn moved(figures: cancel::RunFigures) -> cancel::RunFigures {
-///     let mut later = figures;
-///     later.carrier_hz += 1.0;
-///     later
+/// fn taken(figures: cancel::RunFigures) -> bool {
+///     let cancel::RunFigures {
+///         samples: _, window: _, key_downs: _, listed: _, short: _, fitted: _, skipped: _, airtime: _, blocks: _,
+///         edge: _, interior: _, gap: _, other: _, carrier_hz: _, carrier_step_hz: _, residual: _, evidence: _,
+///         hypothesis: _, taken, ..
+///     } = figures;
+///     taken
 /// }
 /// ```
 ///
-/// ```compile_fail,E0639
-/// fn moved(figures: cancel::RunFigures) -> cancel::RunFigures {
-///     let later = cancel::RunFigures { carrier_hz: figures.carrier_hz + 1.0, ..figures };
-///     later
+/// ```compile_fail
+/// fn taken(figures: cancel::RunFigures) -> bool {
+///     let cancel::RunFigures {
+///         samples: _, window: _, key_downs: _, listed: _, short: _, fitted: _, skipped: _, airtime: _, blocks: _,
+///         edge: _, interior: _, gap: _, other: _, carrier_hz: _, carrier_step_hz: _, residual: _, evidence: _,
+///         hypothesis: _, taken,
+///     } = figures;
+///     taken
 /// }
 /// ```
 struct RunFiguresMayGrow;
 
-/// An answer that is not read is noticed, that of a call that refuses nothing and that of one that refuses.
+/// An answer that is not read is noticed.
 ///
 /// ```
 /// #![deny(unused_must_use)]
 /// let _ = cancel::Refusal::Rate.number();
-/// let _ = cancel::run(&mut [], 3_000.0, 0.0);
 /// ```
 ///
 /// ```compile_fail
 /// #![deny(unused_must_use)]
 /// cancel::Refusal::Rate.number();
-/// ```
-///
-/// ```compile_fail
-/// #![deny(unused_must_use)]
-/// cancel::run(&mut [], 3_000.0, 0.0);
 /// ```
 struct AnswersAreRead;

@@ -30,7 +30,7 @@ fn functions(source: &str) -> Vec<Function> {
             above.push(line.to_string());
             continue;
         }
-        if line.starts_with("pub fn ") {
+        if line.starts_with("pub ") && line.split(' ').take(4).any(|word| word == "fn") {
             let mut head = line.to_string();
             while !head.ends_with('{') {
                 head = format!("{head} {}", lines.next().expect("a function has a body"));
@@ -60,8 +60,8 @@ fn what_is_refused_is_said() {
         assert!(named.contains("[`Refusal"), "which refusals? {}", function.head);
         said += 1;
     }
-    // The nine calls, those of a workspace and of an estimate that it holds.
-    assert!(said >= 18, "{said}");
+    // The calls, those of a workspace and of an estimate that it holds. A call more is one or two more.
+    assert_eq!(said, 19);
 }
 
 #[test]
@@ -73,7 +73,7 @@ fn an_answer_that_is_not_read_is_noticed() {
             noticed += 1;
         }
     }
-    assert!(noticed >= 15, "{noticed}");
+    assert_eq!(noticed, 19);
 }
 
 #[test]
@@ -83,6 +83,6 @@ fn packages_name_their_readme() {
         let cargo = fs::read_to_string(folder.join("Cargo.toml")).unwrap();
         let readme = cargo.lines().find_map(|line| line.strip_prefix("readme = ")).expect("a readme").trim_matches('"');
         let text = fs::read_to_string(folder.join(readme)).unwrap();
-        assert!(text.contains(package), "{readme} does not speak of {package}");
+        assert!(text.contains(&format!("\n| {package} | ")), "{readme} does not say what {package} is");
     }
 }

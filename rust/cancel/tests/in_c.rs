@@ -1,6 +1,6 @@
 //! examples/steps.c, built as C99 and as C++ with every warning an error, answers what the package answers; what the
-//! header has as code (cancel_reason, the version) is what the package says; and what it says of the functions of numbers
-//! holds.
+//! header has as code (cancel_reason, the version) is what the package says; what it says of records and of the functions
+//! of numbers holds; and a library of another release is noticed by both examples.
 
 use cancel::{
     find_elements, fit_elements, residual_check, subtract, Complex32, ElementFit, Refusal, StrongEstimate, LIBRARY,
@@ -22,12 +22,15 @@ fn folder(name: &str) -> PathBuf {
 }
 
 fn built(compiler: &str, words: &[&str], source: &Path, program: &Path) {
-    let include = format!("-I{ROOT}/include");
-    let strict = ["-O2", "-Wall", "-Wextra", "-Werror", "-pedantic", &include];
+    built_with(&Path::new(ROOT).join("include"), compiler, words, source, program);
+}
+
+/// With the header of this folder.
+fn built_with(header: &Path, compiler: &str, words: &[&str], source: &Path, program: &Path) {
     let said = Command::new(compiler)
         .args(words)
-        .args(strict)
-        .arg(source)
+        .args(["-O2", "-Wall", "-Wextra", "-Werror", "-pedantic", "-I"])
+        .args([header, source])
         .args(["-x", "none", env!("CANCEL_FOUND"), "-lm", "-o"])
         .arg(program)
         .output()
@@ -59,6 +62,8 @@ fn steps(
 #[test]
 fn steps_in_c() {
     let folder = folder("steps");
+    // Short enough to be read at one go.
+    assert!(fs::read_to_string(Path::new(ROOT).join("examples/steps.c")).unwrap().lines().count() <= 60);
     let (mut written, mut kept, mut refused) = (0, 0, 0);
     for (compiler, words) in WAYS {
         let program = folder.join(format!("steps-by-{compiler}"));
@@ -96,13 +101,63 @@ fn steps_in_c() {
     assert!(written >= 2 && kept >= 2 && refused >= 2, "{written} written, {kept} kept, {refused} refused");
 }
 
+/// A program of this folder that prints what does not hold.
+fn holds(name: &str) {
+    let source = Path::new(env!("CARGO_MANIFEST_DIR")).join(format!("tests/{name}.c"));
+    for (compiler, words) in WAYS {
+        let program = folder(name).join(format!("{name}-by-{compiler}"));
+        built(compiler, words, &source, &program);
+        let said = Command::new(&program).output().unwrap();
+        assert!(said.status.success() && said.stdout.is_empty(), "{}", String::from_utf8_lossy(&said.stdout));
+    }
+}
+
 #[test]
 fn domains_in_c() {
-    let program = folder("domains").join("domains");
-    let (compiler, words) = WAYS[0];
-    built(compiler, words, &Path::new(env!("CARGO_MANIFEST_DIR")).join("tests/domains.c"), &program);
-    let said = Command::new(&program).output().unwrap();
-    assert!(said.status.success() && said.stdout.is_empty(), "{}", String::from_utf8_lossy(&said.stdout));
+    holds("domains");
+}
+
+#[test]
+fn records_in_c() {
+    holds("records");
+}
+
+/// A header of a later release than the library, or of one that answers something else: both examples stop, and read no
+/// recording.
+#[test]
+fn another_release_in_c() {
+    let folder = folder("release");
+    let header = fs::read_to_string(Path::new(ROOT).join("include/cancel.h")).unwrap();
+    let (major, minor) = LIBRARY.version();
+    let numbers = |major: u64, minor: u64| {
+        format!("#define CANCEL_VERSION_MAJOR {major}\n#define CANCEL_VERSION_MINOR {minor}\n")
+    };
+    assert!(header.contains(&numbers(major, minor)), "the header has the version of the library");
+    for (i, (major, minor, noticed)) in
+        [(major, minor, false), (major, minor + 1, true), (major + 1, 0, true), (major - 1, minor, true)]
+            .into_iter()
+            .enumerate()
+    {
+        let include = folder.join(i.to_string());
+        fs::create_dir_all(&include).unwrap();
+        let own = numbers(LIBRARY.version().0, LIBRARY.version().1);
+        fs::write(include.join("cancel.h"), header.replace(&own, &numbers(major, minor))).unwrap();
+        for (name, complaint) in
+            [("receiver", "it is of another release than the header"), ("steps", "and this release")]
+        {
+            let (compiler, words) = WAYS[0];
+            let program = include.join(name);
+            built_with(&include, compiler, words, &Path::new(ROOT).join(format!("examples/{name}.c")), &program);
+            let recording = format!("{ROOT}/examples/two_senders.iq");
+            let left = include.join("left.iq");
+            let said = Command::new(&program).args(["3000", "0", &recording]).arg(&left).output().unwrap();
+            let told = String::from_utf8(said.stderr).unwrap().contains(complaint);
+            let status = if noticed { 2 } else { 0 };
+            assert_eq!((said.status.code(), told), (Some(status), noticed), "{name} {major}.{minor}");
+            assert_eq!((said.stdout.is_empty(), left.exists()), (noticed, !noticed), "{name} {major}.{minor}");
+            let _ = fs::remove_file(&left);
+        }
+    }
 }
 
 #[test]
