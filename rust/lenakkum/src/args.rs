@@ -10,7 +10,7 @@ use crate::writing::{self, Inputs};
 use cancel::LIBRARY;
 use clap::error::ErrorKind;
 use clap::{Parser, Subcommand};
-use std::collections::BTreeSet;
+use std::collections::BTreeMap;
 use std::fs;
 use std::path::{Path, PathBuf};
 use std::sync::{Mutex, PoisonError};
@@ -99,9 +99,9 @@ pub struct Run {
     /// The files that are read, where others are written.
     #[arg(skip)]
     inputs: Inputs,
-    /// Where files are written: the page, and what is written of recordings and pieces so far.
+    /// Where files are written, and of which recording: the page, of none, and what is known of so far.
     #[arg(skip)]
-    places: Mutex<BTreeSet<PathBuf>>,
+    places: Mutex<BTreeMap<PathBuf, Option<usize>>>,
 }
 
 /// How a run is reported.
@@ -202,9 +202,7 @@ impl Run {
 
     /// No file is to be written twice, by whatever names. What is written of the first piece is known at the start.
     fn once(&self) -> Result<(), Problem> {
-        self.page.iter().for_each(|page| {
-            self.is_new(page);
-        });
+        self.page.iter().try_for_each(|page| self.take_places(vec![page.clone()], None))?;
         self.files
             .iter()
             .enumerate()
@@ -214,18 +212,24 @@ impl Run {
     fn once_of(&self, of: names::Of<'_>) -> Result<(), Problem> {
         let out = self.out_file().map_or_else(Vec::new, |out| writing::files(&names::named(out, of)));
         let picture = self.picture_file().map(|picture| names::named(picture, of));
-        out.into_iter().chain(picture).find(|file| !self.is_new(file)).map_or(Ok(()), |file| {
-            let apart = match self.pieces {
-                None => "{number} in its name tells recordings apart",
-                Some(_) => "{number}-{piece} in its name tells recordings and pieces apart",
-            };
-            Err(Problem::with(file.display(), format!("it would be written twice; {apart}")))
-        })
+        self.take_places(out.into_iter().chain(picture).collect(), Some(of.number))
     }
 
-    /// Is nothing else written where this file is? From now on it is.
-    fn is_new(&self, file: &Path) -> bool {
-        self.places.lock().unwrap_or_else(PoisonError::into_inner).insert(writing::place(file))
+    /// From now on these files are written, if nothing else is where any of them is.
+    fn take_places(&self, files: Vec<PathBuf>, number: Option<usize>) -> Result<(), Problem> {
+        let mut taken = self.places.lock().unwrap_or_else(PoisonError::into_inner);
+        let mut more = taken.clone();
+        for file in files {
+            if let Some(other) = more.insert(writing::place(&file), number) {
+                let instead = match other {
+                    Some(_) if other != number => "{number} in its name tells recordings apart",
+                    _ => "name another file",
+                };
+                return Err(Problem::with(file.display(), format!("it would be written twice; {instead}")));
+            }
+        }
+        *taken = more;
+        Ok(())
     }
 
     /// No recording that is there is to be replaced, unless that is said.

@@ -150,9 +150,7 @@ fn heard(sound: &Sound, path: &Path) -> String {
     };
     let run = |file: &str| format!("`sox {file} -t f32 {two} | lenakkum run - --rate {rate}`");
     let advice = match path.extension() {
-        _ if kind == sound::BW64 || kind == sound::OTHER_OGG => {
-            "write them anew as pairs of f32 (sox does not read it)".into()
-        }
+        _ if sound::UNREAD.contains(&kind) => "write them anew as pairs of f32 (sox does not read it)".into(),
         _ if kind == sound::W64 && reading::is_standard(path) => {
             format!("write it to a file FILE.w64, and {}", run("FILE.w64"))
         }

@@ -54,5 +54,40 @@ pub fn checked(flag: &str, pattern: &Path, several: bool, pieces: bool) -> Resul
     if !pieces && has("{piece}") {
         return Err(Problem::with(flag, "{piece} is for --pieces"));
     }
+    if several && run_together(&text) {
+        let why = "piece 11 of one recording and piece 1 of another would have one name: set {piece} apart, as in";
+        return Err(Problem::with(flag, format!("{why} {{name}}-{{piece}}{ending}")));
+    }
     Ok(())
+}
+
+/// Does nothing but digits stand between a piece's number and a recording's number or name? Then two recordings may
+/// have pieces of one name.
+fn run_together(pattern: &str) -> bool {
+    let words: Vec<&str> = pattern.split(&['{', '}']).collect();
+    // Every second one stood in braces.
+    (1..words.len()).step_by(2).any(|at| {
+        let next = words.get(at + 2);
+        let digits = words.get(at + 1).map_or(false, |between| between.chars().all(|c| c.is_ascii_digit()));
+        digits && next.map_or(false, |next| (*next == "piece") != (words[at] == "piece"))
+    })
+}
+
+#[cfg(test)]
+mod tests {
+    use super::*;
+
+    #[test]
+    fn pieces_that_run_together() {
+        for pattern in
+            ["{name}{piece}.cf32", "{piece}{name}", "{number}{piece}", "a/{name}0{piece}", "{name}-{number}{piece}"]
+        {
+            assert!(run_together(pattern), "{pattern}");
+        }
+        for pattern in
+            ["{name}-{piece}.cf32", "{piece}/{name}", "{number}.{piece}", "{name}{number}-{piece}", "{name}", "x"]
+        {
+            assert!(!run_together(pattern), "{pattern}");
+        }
+    }
 }

@@ -2,15 +2,14 @@
 
 /// A sound file.
 pub struct Sound {
-    /// By the name that sox has for it.
+    /// By the name that sox has for it, if it reads it.
     pub kind: &'static str,
     /// How many channels and samples a second, where its head says so.
     pub head: Option<(u64, f64)>,
 }
 
-/// Two of these that sox does not read.
-pub const BW64: &str = "bw64";
-pub const OTHER_OGG: &str = "ogg, not of Vorbis";
+/// Those of these that sox does not read.
+pub const UNREAD: [&str; 3] = ["bw64", "FLAC in ogg", "Speex in ogg"];
 
 /// The one of these that sox does not read from a pipe.
 pub const W64: &str = "w64";
@@ -25,15 +24,16 @@ pub fn sound(first: &[u8]) -> Option<Sound> {
     match first.get(..4)? {
         b"RIFF" | b"RF64" if at(8, b"WAVE") => of("wav", wav(first, little)),
         b"RIFX" if at(8, b"WAVE") => of("wav", wav(first, big)),
-        b"BW64" if at(8, b"WAVE") => of(BW64, wav(first, little)),
+        b"BW64" if at(8, b"WAVE") => of(UNREAD[0], wav(first, little)),
         b"riff" if at(4, b"\x2e\x91\xcf\x11\xa5\xd6\x28\xdb") && at(24, b"wave") => of(W64, w64(first)),
         b".snd" => au(first, big).and_then(|head| of("au", Some(head))),
         b"dns." => au(first, little).and_then(|head| of("au", Some(head))),
         b"FORM" if at(8, b"AIFF") || at(8, b"AIFC") => of("aiff", aiff(first)),
         b"fLaC" => of("flac", flac(first)),
         b"OggS" if at(28, b"OpusHead") => of(OPUS, opus(first)),
-        b"OggS" if at(28, b"\x01vorbis") => of("ogg", vorbis(first)),
-        b"OggS" => of(OTHER_OGG, None),
+        b"OggS" if at(28, b"\x7fFLAC") => of(UNREAD[1], None),
+        b"OggS" if at(28, b"Speex   ") => of(UNREAD[2], None),
+        b"OggS" => of("ogg", vorbis(first)),
         _ => None,
     }
 }
@@ -91,6 +91,7 @@ fn flac(first: &[u8]) -> Option<(u64, f64)> {
 }
 
 fn vorbis(first: &[u8]) -> Option<(u64, f64)> {
+    (first.get(28..35)? == b"\x01vorbis").then_some(())?;
     Some((little(first, 39, 1)?, little(first, 40, 4)? as f64))
 }
 

@@ -127,18 +127,25 @@ fn opus_is_no_recording() {
     assert_wrong(&said, "it is a sound file (opus): it keeps what an ear hears", "cut");
 }
 
-/// Of what else stands in Ogg sox reads nothing: no command is named.
+/// What sox does not read although it stands in Ogg: no command is named.
 #[test]
-fn ogg_without_vorbis_is_not_sent_to_sox() {
+fn ogg_that_sox_does_not_read() {
     let folder = folder("other_ogg");
     let page = [&b"OggS\0\x02"[..], &[0; 20], b"\x01\x33"].concat();
-    for head in [&b"\x7fFLAC\x01\0\0\x01fLaC"[..], b"Speex   1.2", b"\x80theora", b""] {
+    let anew = "if its two channels are I and Q, write them anew as pairs of f32 (sox does not read it)\n";
+    for (head, kind, words) in [
+        (&b"\x7fFLAC\x01\0\0\x01fLaC"[..], "FLAC in ogg", anew),
+        (b"Speex   1.2", "Speex in ogg", anew),
+        // Vorbis may follow, of which sox reads the first.
+        (
+            b"\x80theora",
+            "ogg",
+            "if its two channels are I and Q, `sox tank.ogg -t f32 - remix 1 2 | lenakkum run - --rate HZ`\n",
+        ),
+    ] {
         fs::write(folder.join("tank.ogg"), [&page[..], head, &[7; 2_000]].concat()).unwrap();
-        let words =
-            "it is a sound file (ogg, not of Vorbis): if its two channels are I and Q, write them anew as pairs of \
-                     f32 (sox does not read it)";
-        assert_wrong(&lenakkum(&folder, "run tank.ogg"), &format!("lenakkum: tank.ogg: {words}\n"), words);
-        assert!(!bash(&folder, "sox tank.ogg -n").status.success());
+        let line = format!("lenakkum: tank.ogg: it is a sound file ({kind}): {words}");
+        assert_wrong(&lenakkum(&folder, "run tank.ogg"), &line, kind);
     }
 }
 

@@ -92,7 +92,7 @@ fn what_is_there_is_replaced_with_force_only() {
 #[test]
 fn no_output_takes_another_recordings_place() {
     let folder = folder("another");
-    for name in ["1.cf32", "2.cf32", "11.cf32", "far-2.cf32"] {
+    for name in ["1.cf32", "2.cf32", "11.cf32", "1-1.cf32", "far-2.cf32"] {
         fs::write(folder.join(name), two()).unwrap();
     }
     symlink("11.cf32", folder.join("far-1.cf32")).unwrap();
@@ -111,12 +111,12 @@ fn no_output_takes_another_recordings_place() {
         assert_wrong(&lenakkum(&folder, &format!("run {words} --rate 3000")), &format!("lenakkum: {line}\n"), words);
     }
     // Of pieces each is looked at, and the others are written.
-    let words = "run 2.cf32 11.cf32 --rate 3000 --pieces 2048samples --out {number}{piece}.cf32 --force";
+    let words = "run 2.cf32 1-1.cf32 --rate 3000 --pieces 2048samples --out {number}-{piece}.cf32 --force";
     let said = lenakkum(&folder, words);
-    assert!(text(&said.stderr).contains("lenakkum: 11.cf32: it is another recording of this command, and is not"));
-    assert_eq!((said.status.code(), fs::remove_file(folder.join("21.cf32")).is_ok()), (Some(2), true));
+    assert!(text(&said.stderr).contains("lenakkum: 1-1.cf32: it is another recording of this command, and is not"));
+    assert_eq!((said.status.code(), fs::remove_file(folder.join("2-1.cf32")).is_ok()), (Some(2), true));
     assert_eq!((names(&folder), fs::read(folder.join("3.sigmf-meta")).unwrap()), (before, meta));
-    for name in ["1.cf32", "2.cf32", "11.cf32", "far-2.cf32", "3.sigmf-data"] {
+    for name in ["1.cf32", "2.cf32", "11.cf32", "1-1.cf32", "far-2.cf32", "3.sigmf-data"] {
         assert!(fs::read(folder.join(name)).unwrap() == two(), "{name}");
     }
     // Each in its own place is what --force is for.
@@ -159,27 +159,24 @@ fn no_file_is_written_twice() {
 fn no_piece_takes_the_place_of_another() {
     let folder = folder("twice_of_pieces");
     fs::write(folder.join("long.cf32"), [two(), two(), two()].concat()).unwrap();
-    fs::write(folder.join("long1.cf32"), &two()[..8 * 512]).unwrap();
-    let twice = "it would be written twice; {number}-{piece} in its name tells recordings and pieces apart\n";
-    let ran = |words: &str, lines: &str| {
-        let said = lenakkum(&folder, &format!("run {words} --rate 3000 --force"));
-        assert_eq!(said.status.code(), Some(2), "{words}");
-        assert!(text(&said.stderr).contains(lines), "{words}: {}", text(&said.stderr));
-        said
-    };
-    let said =
-        ran("long.cf32 --pieces 2048samples --out {piece}.html --page 2.html", &format!("lenakkum: 2.html: {twice}"));
-    assert_eq!(text(&said.stdout).matches("(piece ").count(), 2);
+    fs::write(folder.join("long1.cf32"), two()).unwrap();
+    let said = lenakkum(&folder, "run long.cf32 --rate 3000 --pieces 2048samples --out {piece}.html --page 2.html");
+    assert_eq!((said.status.code(), text(&said.stdout).matches("(piece ").count()), (Some(2), 2));
+    let line = "lenakkum: 2.html: it would be written twice; name another file\n";
+    assert!(text(&said.stderr).contains(line), "{}", text(&said.stderr));
     let page = fs::read_to_string(folder.join("2.html")).unwrap();
     assert!(page.contains("could not be written: 2.html: it would be written twice"));
     assert!(["1.html", "3.html"].iter().all(|name| fs::read(folder.join(name)).unwrap().len() == two().len()));
-    // Piece 11 of one recording and piece 1 of another, in whatever order they are run.
-    for files in ["long.cf32 long1.cf32", "long1.cf32 long.cf32"] {
-        let words = format!("{files} --pieces 512samples --out {{name}}{{piece}}.iq");
-        ran(&words, &format!("lenakkum: 1 of 13 went wrong:\nlenakkum: long11.iq: {twice}"));
-        let left = fs::read(folder.join("long11.iq")).unwrap();
-        assert!(left == two()[..8 * 512], "{files}");
+    // Of several recordings piece 11 of one and piece 1 of another would be one file, whichever is run first.
+    let before = names(&folder);
+    let apart = "piece 11 of one recording and piece 1 of another would have one name: set {piece} apart, as in {name}-{piece}.iq\n";
+    for pattern in ["{name}{piece}.iq", "{piece}{number}.iq"] {
+        let words = format!("run long.cf32 long1.cf32 --rate 3000 --pieces 512samples --out {pattern}");
+        assert_wrong(&lenakkum(&folder, &words), &format!("lenakkum: --out: {apart}"), pattern);
     }
+    assert_eq!(names(&folder), before);
+    let said = lenakkum(&folder, "run long.cf32 long1.cf32 --rate 3000 --pieces 512samples --out {name}-{piece}.iq");
+    assert_eq!((said.status.code(), names(&folder).len()), (Some(0), before.len() + 12 + 4), "{}", text(&said.stderr));
 }
 
 /// What is written is f32 pairs, and would be read as something else by these names.

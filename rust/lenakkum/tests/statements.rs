@@ -237,17 +237,25 @@ fn a_page_of_what_could_not_be_written() {
     assert_eq!((sections.len(), page.matches("<td>not run</td>").count()), (3, 2));
 }
 
-/// On paper each recording begins a new sheet.
+/// On paper each recording begins a new sheet. One that was run has two, the second with its picture, which is not cut.
 #[test]
 fn a_page_is_printed_with_a_sheet_for_each_recording() {
     let folder = folder("paper");
-    lenakkum(&folder, "run a.cf32 b.cf32 c.cf32 d.cf32 --rate 3000 --page all.html");
-    let mut chromium = chromium(&folder);
-    chromium.arg(format!("--print-to-pdf={}", folder.join("all.pdf").display()));
-    let said = chromium.arg(format!("file://{}", folder.join("all.html").display())).output().unwrap();
-    assert!(said.status.success(), "{}", text(&said.stderr));
-    let printed = String::from_utf8_lossy(&fs::read(folder.join("all.pdf")).unwrap()).into_owned();
-    let count = |kind: &str| printed.matches(kind).count();
+    fs::write(folder.join("one.cf32"), one()).unwrap();
+    fs::write(folder.join("two.cf32"), two()).unwrap();
+    let sheets = |files: &str| {
+        lenakkum(&folder, &format!("run {files} --rate 3000 --page all.html"));
+        let mut chromium = chromium(&folder);
+        chromium.arg(format!("--print-to-pdf={}", folder.join("all.pdf").display()));
+        let said = chromium.arg(format!("file://{}", folder.join("all.html").display())).output().unwrap();
+        assert!(said.status.success(), "{}", text(&said.stderr));
+        let printed = String::from_utf8_lossy(&fs::read(folder.join("all.pdf")).unwrap()).into_owned();
+        let count = |kind: &str| printed.matches(kind).count();
+        count("/Type /Page") - count("/Type /Pages")
+    };
     // The first of the four, each a line or two, stands below the table of all.
-    assert_eq!(count("/Type /Page") - count("/Type /Pages"), 4);
+    assert_eq!(sheets("a.cf32 b.cf32 c.cf32 d.cf32"), 4);
+    let drawn = if cfg!(feature = "pictures") { 2 } else { 1 };
+    assert_eq!(sheets("two.cf32"), drawn);
+    assert_eq!(sheets("two.cf32 one.cf32"), 2 * drawn);
 }
