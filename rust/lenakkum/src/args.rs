@@ -99,7 +99,8 @@ pub struct Run {
     /// The files that are read, where others are written.
     #[arg(skip)]
     inputs: Inputs,
-    /// Where files are written, and of which recording: the page, of none, and what is known of so far.
+    /// Where files are written, and of which recording: the page, of none, all first pieces, and later ones from when
+    /// their turn comes.
     #[arg(skip)]
     places: Mutex<BTreeMap<PathBuf, Option<usize>>>,
 }

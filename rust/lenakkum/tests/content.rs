@@ -133,15 +133,13 @@ fn ogg_that_sox_does_not_read() {
     let folder = folder("other_ogg");
     let page = [&b"OggS\0\x02"[..], &[0; 20], b"\x01\x33"].concat();
     let anew = "if its two channels are I and Q, write them anew as pairs of f32 (sox does not read it)\n";
+    let through = "if its two channels are I and Q, `sox tank.ogg -t f32 - remix 1 2 | lenakkum run - --rate HZ`\n";
     for (head, kind, words) in [
         (&b"\x7fFLAC\x01\0\0\x01fLaC"[..], "FLAC in ogg", anew),
         (b"Speex   1.2", "Speex in ogg", anew),
-        // Vorbis may follow, of which sox reads the first.
-        (
-            b"\x80theora",
-            "ogg",
-            "if its two channels are I and Q, `sox tank.ogg -t f32 - remix 1 2 | lenakkum run - --rate HZ`\n",
-        ),
+        // Vorbis may come behind it, and then sox reads that.
+        (b"\x80theora", "ogg", through),
+        (b"", "ogg", through),
     ] {
         fs::write(folder.join("tank.ogg"), [&page[..], head, &[7; 2_000]].concat()).unwrap();
         let line = format!("lenakkum: tank.ogg: it is a sound file ({kind}): {words}");

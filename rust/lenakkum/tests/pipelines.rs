@@ -146,7 +146,7 @@ fn no_file_is_written_twice() {
     }
     for (words, file) in cases {
         let said = lenakkum(&folder, &format!("run two.cf32 --rate 3000 {words}"));
-        assert_wrong(&said, &format!("lenakkum: {file}: it would be written twice"), words);
+        assert_wrong(&said, &format!("lenakkum: {file}: it would be written twice; name another file\n"), words);
     }
     assert_eq!((names(&folder), names(&folder.join("a"))), (before, vec![]));
     // The same name in another folder is another file.
@@ -175,6 +175,10 @@ fn no_piece_takes_the_place_of_another() {
         assert_wrong(&lenakkum(&folder, &words), &format!("lenakkum: --out: {apart}"), pattern);
     }
     assert_eq!(names(&folder), before);
+    // Of one recording alone the pieces differ.
+    let said = lenakkum(&folder, "run long1.cf32 --rate 3000 --pieces 1024samples --out {name}{piece}.iq");
+    assert_eq!((said.status.code(), text(&said.stderr)), (Some(0), String::new()));
+    assert!(["long11.iq", "long12.iq"].iter().all(|name| fs::remove_file(folder.join(name)).is_ok()));
     let said = lenakkum(&folder, "run long.cf32 long1.cf32 --rate 3000 --pieces 512samples --out {name}-{piece}.iq");
     assert_eq!((said.status.code(), names(&folder).len()), (Some(0), before.len() + 12 + 4), "{}", text(&said.stderr));
 }
