@@ -1,6 +1,6 @@
 -- The numbers of every listed element are finite: no time is a NaN or an infinity, as long as the amplitudes and the
 -- threshold are amounts (finite, with the sign plus).
--- `crossed-bounded` is of one crossing, `elements-bounded` of all that a row has. Of a recording of finite f32, at
+-- `element-bounded` is of one key-down, `elements-bounded` of all that a row has. Of a recording of finite f32, at
 -- any carrier: `threshold-amount`, `recorded-is`, `found-bounded`. Assumes nothing.
 use mathlib.Core.Path.{_≡_, refl, sym, ap, _∙_, subst}
 use mathlib.Core.Logic.{_⊎_, inl, inr, ⊎-elim, _↔_}
@@ -10,19 +10,17 @@ use Prim.Native.Nat.{ℕ, _+_, _-_, _*_, _^_, _≤_, _<_}
 use native.Mathlib.Nat.{mul-le-mul, eq-zero-or-pos}
 use native.Mathlib.Omega.{arith}
 use lib.Dec.{lit≤}
-use lib.Ieee.{Float, nan, lt, le}
+use lib.Ieee.{Float, nan, lt}
 use lib.ListN.{length, getD}
-use Rattle.lists.proofs.Every.{and-left, and-right}
-use Rattle.float.specs.Ops.{_⊖_, _⊗_, _⊘_, half, plus-zero}
-use Rattle.float.proofs.Compared.{yes}
-use Rattle.float.proofs.Bounds.{Bounded, bounded-more, bounded-add, bounded-sub, bounded-mul, bounded-div, bounded-whole, bounded-one, beyond-two}
-use Rattle.float.proofs.Amounts.{Amount, amount-half, amount-number, Crosses, share-bounded}
+use Rattle.float.specs.Ops.{_⊗_, half, plus-zero}
+use Rattle.float.proofs.Bounds.{Bounded, bounded-more, bounded-whole}
+use Rattle.float.proofs.Amounts.{Amount, amount-half, amount-number}
 use Rattle.row.specs.Samples.{Singles, Iq}
-use Rattle.row.specs.Window.{Rate, stepOf, blocks, centreOf}
+use Rattle.row.specs.Window.{Rate, stepOf, blocks}
 use Rattle.row.specs.Envelope.{rowOf, rowLength}
 use Rattle.lists.specs.Firsts.{firsts}
 use Rattle.row.proofs.Means.{blocks-short}
-use Rattle.row.proofs.Steps.{step-high}
+use Rattle.row.proofs.Steps.{step-low, step-high}
 use Rattle.lists.proofs.Firsts.{length-firsts, getD-firsts}
 use Rattle.row.proofs.Bounds.{row-amount}
 use Rattle.rank.specs.declared.Percentile.{Percentile}
@@ -35,36 +33,10 @@ use Rattle.elements.specs.declared.threshold.Threshold.{Threshold}
 use Rattle.elements.specs.declared.threshold.Threshold.the-variants.{At, Absent}
 use Rattle.elements.specs.Find.{halfOf, thresholdOf, keyDownsAt, elementsAt, keyDownsOf, elementsFound}
 use Rattle.elements.specs.declared.element.KeyedElement.{KeyedElement}
-use Rattle.elements.specs.Keying.{upward, downward, KeyDown, IsKeyDown, keyDowns, crossedAt, elementOf, listedOf, elementsOf, elementsTo}
-use Rattle.elements.proofs.KeyDowns.{members, listed-is, key-down-is}
-
--- ---- one crossing
-
--- a crossing at i, of either kind
-abbrev pub Crossed : (ℕ → Float) → Float → ℕ → Type 0
-Crossed row thr i = (upward row thr i ≡ true) ⊎ (downward row thr i ≡ true)
-
-crosses : (row : ℕ → Float) (thr : Float) (i : ℕ) → Crossed row thr i → Crosses (row (i - 1)) (row i) thr
-unfolding upward downward
-crosses row thr i h =
-    ⊎-elim
-    (λ u. inl (yes (and-left (lt (row (i - 1)) thr) (le thr (row i)) u), yes (and-right (lt (row (i - 1)) thr) (le thr (row i)) u)))
-    (λ d. inr (yes (and-left (le thr (row (i - 1))) (lt (row i) thr) d), yes (and-right (le thr (row (i - 1))) (lt (row i) thr) d)))
-    h
-
-centre-bounded : (a len : ℕ) → a + len + 1 ≤ 2 ^ 53 → Bounded 0 (a + (len + 1)) (centreOf a len)
-centre-bounded a len h =
-    bounded-add (bounded-whole a (omega arith))
-    (bounded-div (bounded-sub (bounded-whole len (omega arith)) bounded-one (omega arith) (lit≤ tt)) beyond-two (omega arith) (lit≤ tt)) (omega arith) (lit≤ tt)
-
-pub crossed-bounded : (row : ℕ → Float) (thr : Float) (step i : ℕ) → step ≤ 64 → i ≤ 2 ^ 20 → Amount (row (i - 1)) → Amount (row i) → Amount thr → Crossed row thr i → Bounded 0 (2 ^ 27) (crossedAt row thr step i)
-unfolding crossedAt
-crossed-bounded row thr step i s h p q t c =
-    let far : (i - 1) * step ≤ 2 ^ 20 * 64 = mul-le-mul {n₁ = i - 1} {n₂ = 2 ^ 20} (omega arith) s in
-    let share : Bounded 0 1 ((thr ⊖ row (i - 1)) ⊘ (row i ⊖ row (i - 1))) = share-bounded (row (i - 1)) (row i) thr p q t (crosses row thr i c) in
-    bounded-more
-    (bounded-add (centre-bounded ((i - 1) * step) (8 * step) (omega arith)) (bounded-mul share (bounded-whole step (omega arith)) (omega arith) (lit≤ tt)) (omega arith) (lit≤ tt))
-    (omega arith) (lit≤ tt)
+use Rattle.elements.specs.Keying.{KeyDown, IsKeyDown, keyDowns, crossedAt, elementOf, listedOf, elementsOf, elementsTo}
+use Rattle.elements.specs.Times.{twiceCentre, LiesBetween}
+use Rattle.elements.proofs.KeyDowns.{key-down-later, members, listed-is, key-down-is}
+use Rattle.elements.proofs.Centres.{Crossed, crossed-between, between-bounded}
 
 -- ---- one element
 
@@ -75,28 +47,42 @@ pub record Plain (e : KeyedElement) : Type 0 where
   pub up-bounded : Bounded 0 (2 ^ 20) (e .up)
   pub down-bounded : Bounded 0 (2 ^ 20) (e .down)
 
-pub element-bounded : (row : ℕ → Float) (thr : Float) (step j : ℕ) (k : KeyDown) → step ≤ 64 → j ≤ 2 ^ 20 → ((i : ℕ) → i ≤ j → Amount (row i)) → Amount thr → IsKeyDown row thr j k → Plain (elementOf row thr step k)
-unfolding elementOf
-element-bounded row thr step j k s h each t a =
-    let u : k .up ≤ j = omega (arith, a .later, a .within) in
-    let d = a .within in
-    record {
-      start-bounded = crossed-bounded row thr step (k .up) s (omega arith) (each (k .up - 1) (omega arith)) (each (k .up) u) t (inl (a .rises));
-      end-bounded = crossed-bounded row thr step (k .down) s (omega arith) (each (k .down - 1) (omega arith)) (each (k .down) d) t (inr (a .falls));
-      up-bounded = bounded-more (bounded-whole (k .up) (omega arith)) (omega arith) (lit≤ tt);
-      down-bounded = bounded-more (bounded-whole (k .down) (omega arith)) (omega arith) (lit≤ tt);
-    }
+module _ (row : ℕ → Float) (thr : Float) (step last : ℕ) (some : 0 < step) (s : step ≤ 64) (h : last ≤ 2 ^ 20) (each : (i : ℕ) → i ≤ last → Amount (row i)) (t : Amount thr) (k : KeyDown)
+    (is : IsKeyDown row thr last k) where
+  between : (i : ℕ) → 0 < i → i ≤ last → Crossed row thr i → LiesBetween (twiceCentre step (i - 1)) (twiceCentre step i) (crossedAt row thr step i)
+  between i p l c = crossed-between row thr step i some s p (omega arith) (each (i - 1) (omega arith)) (each i l) t c
+
+  pub start-between : LiesBetween (twiceCentre step (k .up - 1)) (twiceCentre step (k .up)) (crossedAt row thr step (k .up))
+  start-between = between (k .up) (key-down-later row thr last k is) (omega (arith, is .later, is .within)) (inl (is .rises))
+
+  pub end-between : LiesBetween (twiceCentre step (k .down - 1)) (twiceCentre step (k .down)) (crossedAt row thr step (k .down))
+  end-between = between (k .down) (omega (arith, is .later)) (is .within) (inr (is .falls))
+
+  few : (i : ℕ) → i ≤ last → twiceCentre step i ≤ 2 * 2 ^ 27
+  few i l = let far : i * step ≤ 2 ^ 20 * 64 = mul-le-mul {n₁ = i} {n₂ = 2 ^ 20} (omega arith) s in omega arith
+
+  element-bounded : Plain (elementOf row thr step k)
+  unfolding elementOf
+  element-bounded =
+      let later = is .later in
+      let within = is .within in
+      record {
+        start-bounded = between-bounded (2 ^ 27) (few (k .up) (omega arith)) start-between;
+        end-bounded = between-bounded (2 ^ 27) (few (k .down) within) end-between;
+        up-bounded = bounded-more (bounded-whole (k .up) (omega arith)) (omega arith) (lit≤ tt);
+        down-bounded = bounded-more (bounded-whole (k .down) (omega arith)) (omega arith) (lit≤ tt);
+      }
 
 -- ---- all of them
 
-pub elements-bounded : (row : ℕ → Float) (thr : Float) (step : ℕ) (fs : Float) (j : ℕ) → step ≤ 64 → j ≤ 2 ^ 20 → ((i : ℕ) → i ≤ j → Amount (row i)) → Amount thr
+pub elements-bounded : (row : ℕ → Float) (thr : Float) (step : ℕ) (fs : Float) (j : ℕ) → 0 < step → step ≤ 64 → j ≤ 2 ^ 20 → ((i : ℕ) → i ≤ j → Amount (row i)) → Amount thr
     → (e : KeyedElement) → List·Memᴰ e (elementsTo row thr step fs j) → Plain e
 unfolding elementsTo elementsOf
-elements-bounded row thr step fs j s h each t e m =
+elements-bounded row thr step fs j some s h each t e m =
     let ks = keyDowns row thr j in
     let from = Memᴰ·of-map (elementOf row thr step) (listedOf row thr step fs ks) m in
     let listed = listed-is row thr step fs ks (from .0) .0 (from .1) in
-    subst Plain (from .2) (element-bounded row thr step j (from .0) s h each t (members row thr j (from .0) (listed .0) .0))
+    subst Plain (from .2) (element-bounded row thr step j some s h each t (from .0) (members row thr j (from .0) (listed .0) .0))
 
 -- ---- those of a recording, at any carrier
 
@@ -136,7 +122,7 @@ module _ (iq : List Float) (fs carrier : Float) (s : Singles iq) (q : Iq iq) whe
       let row = firsts (rowOf iq fs carrier) (rowLength iq fs) in
       half-amount (percentileOf row EDGE_PERCENTILE) thr (λ v p. percentile-keeps Amount row EDGE_PERCENTILE v listed-amount p) e
 
-  last-amount : (thr : Float) → thresholdOf iq fs carrier ≡ At thr → (i : ℕ) → i ≤ rowLength iq fs - 1 → Amount (rowOf iq fs carrier i)
+  pub last-amount : (thr : Float) → thresholdOf iq fs carrier ≡ At thr → (i : ℕ) → i ≤ rowLength iq fs - 1 → Amount (rowOf iq fs carrier i)
   last-amount thr t i h = let some : 0 < rowLength iq fs = some-row iq fs carrier thr t in row-amount iq fs carrier i s q (omega arith)
 
   -- A pair of positions is a key-down of the recording exactly if it is an upward crossing and the next downward one:
@@ -157,6 +143,6 @@ module _ (iq : List Float) (fs carrier : Float) (s : Singles iq) (q : Iq iq) whe
       go : (p : Threshold) → thresholdOf iq fs carrier ≡ p → List·Memᴰ e (elementsAt (rowOf iq fs carrier) (rowLength iq fs - 1) (stepOf fs) fs p) → Plain e
       go (At thr) t m =
           let few : blocks iq (stepOf fs) ≤ 2 ^ 20 = blocks-short iq (stepOf fs) (q .short) in
-          elements-bounded (rowOf iq fs carrier) thr (stepOf fs) fs (rowLength iq fs - 1) (step-high fs r) (omega arith)
+          elements-bounded (rowOf iq fs carrier) thr (stepOf fs) fs (rowLength iq fs - 1) (step-low fs) (step-high fs r) (omega arith)
           (last-amount thr t) (threshold-amount thr t) e m
       go Absent t m = absurd (List·Memᴰ·not-nil m)

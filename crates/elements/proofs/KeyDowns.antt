@@ -1,7 +1,7 @@
 -- Which pairs `keyDowns` has: each upward crossing with the next downward one, each once, in order (01, part 3). For
 -- every row and threshold; where a row must have no NaN, the theorem says so. Assumes nothing.
 use Prim.Native.Nat.{ℕ, zero, suc, _+_, _-_, _*_, _≤_, _<_}
-use native.Mathlib.Nat.{eq-or-lt-of-le, le-of-suc-le-suc}
+use native.Mathlib.Nat.{eq-or-lt-of-le, eq-zero-or-pos, le-of-suc-le-suc}
 use native.Mathlib.Omega.{arith}
 use mathlib.Core.Path.{_≡_, refl, sym, ap, _∙_, subst}
 use mathlib.Core.Logic.{_⊎_, inl, inr, ⊎-elim, _↔_}
@@ -63,6 +63,9 @@ module _ (row : ℕ → Float) (thr : Float) where
       let a = not-reached (row 0) thr (and-left (lt (row 0) thr) (le thr (row 0)) h) in
       let b = and-right (lt (row 0) thr) (le thr (row 0)) h in
       false≢true (sym a ∙ b)
+
+  pub key-down-later : (last : ℕ) (k : KeyDown) → IsKeyDown row thr last k → 0 < k .up
+  key-down-later last k is = ⊎-elim (λ z. absurd (first-not-up (subst (λ i. upward row thr i ≡ true) z (is .rises)))) (λ p. p) (eq-zero-or-pos (k .up))
 
   pub pending-at : (j u : ℕ) → upward row thr u ≡ true → u ≤ j → ((m : ℕ) → u < m → m ≤ j → quiet m) → pending row thr j ≡ At u
   pending-at zero u h le-j q = let none : u ≡ 0 = omega arith in absurd (first-not-up (subst (λ k. upward row thr k ≡ true) none h))

@@ -1,17 +1,18 @@
 -- Amounts: f64 values that are finite and have the sign plus, so neither a NaN nor an infinity, nothing below zero
 -- and no -0.0. The root of an amount is one, and so is its half,
 -- and so is a sum of two squares that does not overflow. Where a line from a0 to a1 crosses a threshold, as a share
--- of the way, lies between 0 and 1 (`share-bounded`):
+-- of the way, lies from 0 to 1 (`share-part`):
 -- the difference of two different f64 is never rounded to zero. Assumes nothing.
 use mathlib.Core.Path.{_≡_, refl, sym, ap, _∙_, subst}
 use mathlib.Core.Logic.{_⊎_, ⊎-elim}
 use Prim.Native.Nat.{ℕ, zero, suc, _+_, _-_, _*_, _^_, _≤_, _<_}
-use native.Mathlib.Nat.{le-trans, le-of-eq, lt-of-lt-of-le, lt-of-mul-lt-mul-right, le-of-mul-le-mul-right, one-mul, zero-mul, mul-pos, mul-le-mul-right, mul-le-mul-left, zero-lt-suc}
+use native.Mathlib.Nat.{le-trans, le-of-eq, lt-of-lt-of-le, eq-or-lt-of-le, lt-of-mul-lt-mul-right, le-of-mul-le-mul-right, one-mul, zero-mul, mul-pos, mul-le-mul-right, mul-le-mul-left, zero-lt-suc}
 use native.Mathlib.Omega.{arith}
-use mathlib.Core.Bool.{Bool, true, false, not, cond, true≢false}
+use mathlib.Core.Bool.{Bool, true, false, not, cond, true≢false, false≢true}
+use borrow.Author.Tests.{lt-ltb, le-ltb}
 use lib.Dec.{T, ltb, lit≤, lit<, ltb→lt, nltb→le}
 use lib.Pow.{pow-pos}
-use lib.Ieee.{Float, nan, inf, fin, binary64, up, down, round, neg, sum, mul, lt, le, ofBits, fits, isNan}
+use lib.Ieee.{Float, nan, inf, fin, binary64, unlike, up, down, round, sum, mul, lt, le, ofBits, fits, isNan}
 use lib.Ieee.Fits.{down-pos, round-fits, add-fits}
 use lib.Ieee.Exact.{HasValue, round-exact}
 use lib.Ieee.Order.{round-mono}
@@ -22,11 +23,12 @@ use Rattle.float.specs.Ops.{_⊕_, _⊖_, _⊗_, _⊘_, plus-zero, half}
 use Rattle.float.specs.Root.{sqrtOf}
 use Rattle.float.proofs.Exactly.{neg-round, round-value, fits-says, exponent}
 use Rattle.float.proofs.Compared.{lt→cross, le→value}
-use Rattle.float.proofs.Sums.{sub-over}
+use Rattle.float.proofs.Sums.{sub-over, div-over, neg-value}
 use Rattle.float.proofs.Meaning.{root-of-units}
 use Rattle.float.proofs.Signs.{Signed, round-signed, number-signed, add-signed, square-signed}
 use Rattle.float.proofs.Monotone.{signed-le}
-use Rattle.float.proofs.Bounds.{Bounded, div-bounded, bounded-finite, bounded-mul, bounded-add, finite-number}
+use Rattle.float.proofs.Bounds.{Bounded, bounded-finite, bounded-mul, bounded-add, finite-number}
+use Rattle.float.proofs.Parts.{Part, round-none, round-part}
 
 -- finite, with the sign plus
 abbrev pub unsigned : Float → Bool
@@ -158,27 +160,18 @@ amount-squares {k} {a} {x} {y} p q h g =
 
 -- ---- where a line crosses a threshold
 
--- the size of a value, whatever its sign
-pub record Sized (x y : Float) : Type 0 where
-  pub above : num x ≡ num y
-  pub below : den x ≡ den y
-  pub here : finite x ≡ finite y
-
-sized-neg : (x : Float) → Sized (neg x) x
-unfolding neg
-sized-neg nan = record { above = refl; below = refl; here = refl }
-sized-neg (inf s) = record { above = refl; below = refl; here = refl }
-sized-neg (fin s m e) = record { above = refl; below = refl; here = refl }
-
-sized : (s : Bool) (n d : ℕ) → Sized (round binary64 s n d) (round binary64 false n d)
-sized false n d = record { above = refl; below = refl; here = refl }
-sized true n d = subst (λ (z : Float). Sized z (round binary64 false n d)) (neg-round binary64 false n d) (sized-neg (round binary64 false n d))
-
 own : (x : Float) → T (unsigned x) → HasValue x false (num x) (den x)
 own nan h = absurd h
 own (inf s) h = absurd h
 own (fin true m e) h = absurd h
 own (fin false m e) h = (refl, refl)
+
+-- a rounded value has its size, whatever its sign
+sized : (s : Bool) (n d : ℕ) → Amount (round binary64 false n d) → HasValue (round binary64 s n d) s (num (round binary64 false n d)) (den (round binary64 false n d))
+sized false n d h = own (round binary64 false n d) (h .plus)
+sized true n d h =
+    let R = round binary64 false n d in
+    subst (λ (z : Float). HasValue z true (num R) (den R)) (neg-round binary64 false n d) (neg-value R false (num R) (den R) (own R (h .plus)))
 
 -- of two numbers of smallest values, above zero and rounded, with any signs, the smaller over the larger
 least : HasValue (round binary64 false 1 (2 ^ 1074)) false 1 (2 ^ 1074)
@@ -192,35 +185,38 @@ least-below d D q =
     (le→value (round binary64 false 1 (2 ^ 1074)) R 1 (2 ^ 1074) (num R) (den R) (pow-pos 1074) (den-pos R) least (own R (q .plus))
     (round-mono binary64 1 (2 ^ 1074) d (2 ^ 1074) (pow-pos 1074) (pow-pos 1074) (mul-le-mul-right (2 ^ 1074) D))))
 
-quotient-bounded : (s t : Bool) (n d : ℕ) → n ≤ d → 0 < d → Amount (round binary64 false d (2 ^ 1074)) → Bounded 0 1 (round binary64 s n (2 ^ 1074) ⊘ round binary64 t d (2 ^ 1074))
-quotient-bounded s t n d l D q =
+none-num : (x : Float) → Bounded 0 0 x → num x ≡ 0
+none-num nan h = refl
+none-num (inf s) h = refl
+none-num (fin s m e) h = let l = h .bound in omega arith
+
+quotient-part : (s t : Bool) (n d : ℕ) → n ≤ d → 0 < d → Amount (round binary64 false d (2 ^ 1074)) → (unlike s t ≡ true → n ≡ 0)
+    → Part 1 (round binary64 s n (2 ^ 1074) ⊘ round binary64 t d (2 ^ 1074))
+quotient-part s t n d l D q z =
     let N = round binary64 false n (2 ^ 1074) in
     let R = round binary64 false d (2 ^ 1074) in
     let under : T (le N R) = round-mono binary64 n (2 ^ 1074) d (2 ^ 1074) (pow-pos 1074) (pow-pos 1074) (mul-le-mul-right (2 ^ 1074) l) in
     let p : Amount N = amount-le n (2 ^ 1074) R (q .plus) under in
     let order : num N * den R ≤ num R * den N = le→value N R (num N) (den N) (num R) (den R) (den-pos N) (den-pos R) (own N (p .plus)) (own R (q .plus)) under in
-    let a = sized s n (2 ^ 1074) in
-    let b = sized t d (2 ^ 1074) in
-    div-bounded 0 1 (round binary64 s n (2 ^ 1074)) (round binary64 t d (2 ^ 1074))
-    (subst T (sym (a .here)) (amount-finite p)) (subst T (sym (b .here)) (amount-finite q))
-    (subst (λ (z : ℕ). 0 < z) (sym (b .above)) (least-below d D q))
-    (lit≤ tt) (lit≤ tt)
-    (rw (a .above, a .below, b .above, b .below) (le-trans order (le-of-eq (sym (one-mul (num R * den N))))))
+    let some : 0 < num R = least-below d D q in
+    rw (div-over binary64 (round binary64 s n (2 ^ 1074)) (round binary64 t d (2 ^ 1074)) s t (num N) (den N) (num R) (den R) (den-pos N) (den-pos R) some (sized s n (2 ^ 1074) p) (sized t d (2 ^ 1074) q))
+    (round-part 1 (unlike s t) (num N * den R) (num R * den N) (mul-pos some (den-pos N)) (lit≤ tt) (le-trans order (le-of-eq (sym (one-mul (num R * den N)))))
+    (λ e. ap (λ (k : ℕ). k * den R) (none-num N (round-none false n (2 ^ 1074) (pow-pos 1074) (z e))) ∙ zero-mul (den R)))
 
--- x - y is the distance of x and y, rounded, with a sign
+-- x - y is the distance of x and y, rounded, with a minus where x is below y
 apart : ℕ → ℕ → ℕ
 apart a b = a - b + (b - a)
 
-distance : (a b c : ℕ) → (s : Bool) × (sum binary64 false a true b c ≡ round binary64 s (apart a b) c)
+distance : (a b c : ℕ) → sum binary64 false a true b c ≡ round binary64 (ltb a b) (apart a b) c
 unfolding sum apart
 distance a b c = go (ltb a b) (ltb→lt a b) (nltb→le a b)
   where
-    go : (t : Bool) → (T t → a < b) → (T (not t) → b ≤ a) → (s : Bool) × (cond t (round binary64 true (b - a) c) (round binary64 false (a - b) c) ≡ round binary64 s (a - b + (b - a)) c)
-    go true h g = (true, ap (λ (z : ℕ). round binary64 true z c) (more a b (h tt)))
+    go : (t : Bool) → (T t → a < b) → (T (not t) → b ≤ a) → cond t (round binary64 true (b - a) c) (round binary64 false (a - b) c) ≡ round binary64 t (a - b + (b - a)) c
+    go true h g = ap (λ (z : ℕ). round binary64 true z c) (more a b (h tt))
       where
         more : (a b : ℕ) → a < b → b - a ≡ a - b + (b - a)
         more a b h = omega arith
-    go false h g = (false, ap (λ (z : ℕ). round binary64 false z c) (less a b (g tt)))
+    go false h g = ap (λ (z : ℕ). round binary64 false z c) (less a b (g tt))
       where
         less : (a b : ℕ) → b ≤ a → a - b ≡ a - b + (b - a)
         less a b h = omega arith
@@ -231,39 +227,51 @@ counts-lt x y a b v w h = lt-of-mul-lt-mul-right (2 ^ 1074) (lt→cross x y a (2
 counts-le : (x y : Float) (a b : ℕ) → HasValue x false a (2 ^ 1074) → HasValue y false b (2 ^ 1074) → T (le x y) → a ≤ b
 counts-le x y a b v w h = le-of-mul-le-mul-right (le→value x y a (2 ^ 1074) b (2 ^ 1074) (pow-pos 1074) (pow-pos 1074) v w h) (pow-pos 1074)
 
--- both distances are from b0, the second the larger and no larger than an amount
-share-by : (x y z : Float) (a b c : ℕ) → HasValue x false a (2 ^ 1074) → HasValue y false b (2 ^ 1074) → HasValue z false c (2 ^ 1074) → apart c a ≤ apart b a → 0 < apart b a → Amount (round binary64 false (apart b a) (2 ^ 1074))
-    → Bounded 0 1 ((z ⊖ x) ⊘ (y ⊖ x))
-share-by x y z a b c u v w l p q =
-    let top = distance c a (2 ^ 1074) in
-    let whole = distance b a (2 ^ 1074) in
-    rw (sub-over binary64 z x false false c a (2 ^ 1074) (pow-pos 1074) w u, sub-over binary64 y x false false b a (2 ^ 1074) (pow-pos 1074) v u, top .1, whole .1)
-    (quotient-bounded (top .0) (whole .0) (apart c a) (apart b a) l p q)
+-- both distances are from a, the second the larger; they go the same way, or the first is none
+record Way (a b c : ℕ) : Type 0 where
+  under : apart c a ≤ apart b a
+  some : 0 < apart b a
+  same : unlike (ltb c a) (ltb b a) ≡ true → apart c a ≡ 0
 
-apart-up : (a b c : ℕ) → a < c → c ≤ b → (apart c a ≤ apart b a) × (0 < apart b a) × (apart b a ≤ b)
-unfolding apart
-apart-up a b c h g = (omega arith, omega arith, omega arith)
+-- the larger is no larger than an amount
+share-by : (x y z : Float) (a b c : ℕ) → HasValue x false a (2 ^ 1074) → HasValue y false b (2 ^ 1074) → HasValue z false c (2 ^ 1074) → Way a b c → Amount (round binary64 false (apart b a) (2 ^ 1074))
+    → Part 1 ((z ⊖ x) ⊘ (y ⊖ x))
+share-by x y z a b c u v w h q =
+    rw (sub-over binary64 z x false false c a (2 ^ 1074) (pow-pos 1074) w u, sub-over binary64 y x false false b a (2 ^ 1074) (pow-pos 1074) v u, distance c a (2 ^ 1074), distance b a (2 ^ 1074))
+    (quotient-part (ltb c a) (ltb b a) (apart c a) (apart b a) (h .under) (h .some) q (h .same))
 
-apart-down : (a b c : ℕ) → c ≤ a → b < c → (apart c a ≤ apart b a) × (0 < apart b a) × (apart b a ≤ a)
+way-up : (a b c : ℕ) → a < c → c ≤ b → Way a b c × (apart b a ≤ b)
 unfolding apart
-apart-down a b c h g = (omega arith, omega arith, omega arith)
+way-up a b c h g =
+    (record { under = omega arith; some = omega arith; same = λ e. absurd (false≢true (rw (le-ltb c a (omega arith), le-ltb b a (omega arith)) at e)) }, omega arith)
+
+way-down : (a b c : ℕ) → c ≤ a → b < c → Way a b c × (apart b a ≤ a)
+unfolding apart
+way-down a b c h g = (
+  record {
+    under = omega arith;
+    some = omega arith;
+    same = λ e. ⊎-elim (λ z. omega arith) (λ l. absurd (false≢true (rw (lt-ltb c a l, lt-ltb b a (omega arith)) at e))) (eq-or-lt-of-le h);
+  },
+  omega arith,
+)
 
 -- the threshold is crossed on the way from a0 to a1, upward or downward
 abbrev pub Crosses : Float → Float → Float → Type 0
 Crosses a0 a1 thr = (T (lt a0 thr) × T (le thr a1)) ⊎ (T (le thr a0) × T (lt a1 thr))
 
-pub share-bounded : (a0 a1 thr : Float) → Amount a0 → Amount a1 → Amount thr → Crosses a0 a1 thr → Bounded 0 1 ((thr ⊖ a0) ⊘ (a1 ⊖ a0))
-share-bounded x y z hx hy hz crosses =
+pub share-part : (a0 a1 thr : Float) → Amount a0 → Amount a1 → Amount thr → Crosses a0 a1 thr → Part 1 ((thr ⊖ a0) ⊘ (a1 ⊖ a0))
+share-part x y z hx hy hz crosses =
     let a = amount-counts x hx in
     let b = amount-counts y hy in
     let c = amount-counts z hz in
     ⊎-elim
     (λ h.
-    let d = apart-up (a .count) (b .count) (c .count) (counts-lt x z (a .count) (c .count) (a .value) (c .value) (h .0)) (counts-le z y (c .count) (b .count) (c .value) (b .value) (h .1)) in
-    share-by x y z (a .count) (b .count) (c .count) (a .value) (b .value) (c .value) (d .0) (d .1)
-    (round-amount (apart (b .count) (a .count)) (2 ^ 1074) y (b .count) (2 ^ 1074) (pow-pos 1074) (pow-pos 1074) hy (b .value) (mul-le-mul-right (2 ^ 1074) (d .2))))
+    let d = way-up (a .count) (b .count) (c .count) (counts-lt x z (a .count) (c .count) (a .value) (c .value) (h .0)) (counts-le z y (c .count) (b .count) (c .value) (b .value) (h .1)) in
+    share-by x y z (a .count) (b .count) (c .count) (a .value) (b .value) (c .value) (d .0)
+    (round-amount (apart (b .count) (a .count)) (2 ^ 1074) y (b .count) (2 ^ 1074) (pow-pos 1074) (pow-pos 1074) hy (b .value) (mul-le-mul-right (2 ^ 1074) (d .1))))
     (λ h.
-    let d = apart-down (a .count) (b .count) (c .count) (counts-le z x (c .count) (a .count) (c .value) (a .value) (h .0)) (counts-lt y z (b .count) (c .count) (b .value) (c .value) (h .1)) in
-    share-by x y z (a .count) (b .count) (c .count) (a .value) (b .value) (c .value) (d .0) (d .1)
-    (round-amount (apart (b .count) (a .count)) (2 ^ 1074) x (a .count) (2 ^ 1074) (pow-pos 1074) (pow-pos 1074) hx (a .value) (mul-le-mul-right (2 ^ 1074) (d .2))))
+    let d = way-down (a .count) (b .count) (c .count) (counts-le z x (c .count) (a .count) (c .value) (a .value) (h .0)) (counts-lt y z (b .count) (c .count) (b .value) (c .value) (h .1)) in
+    share-by x y z (a .count) (b .count) (c .count) (a .value) (b .value) (c .value) (d .0)
+    (round-amount (apart (b .count) (a .count)) (2 ^ 1074) x (a .count) (2 ^ 1074) (pow-pos 1074) (pow-pos 1074) hx (a .value) (mul-le-mul-right (2 ^ 1074) (d .1))))
     crosses

@@ -16,7 +16,7 @@ use lib.Ieee.Exact.{HasValue, round-exact}
 use lib.Ieee.Order.{round-mono}
 use lib.Ieee.Scale.{finite}
 use lib.Ieee.Positive.{num, den, den-pos, first-pos, value→cross}
-use Rattle.float.specs.Ops.{_⊕_, _⊖_, _⊗_, _⊘_, of, plus-zero, one, two, eight}
+use Rattle.float.specs.Ops.{_⊕_, _⊖_, _⊗_, _⊘_, of, plus-zero, one, eight}
 use Rattle.float.specs.Compare.{absOf}
 use Rattle.float.specs.Whole.{halfUp, wholeBy, roundOf}
 use Rattle.float.proofs.Exactly.{neg-round, fits-says}
@@ -256,10 +256,6 @@ bounded-zero = record { bound = lit≤ tt }
 pub bounded-one : Bounded 0 1 one
 unfolding ofBits
 bounded-one = record { bound = lit≤ tt }
-
-pub beyond-two : Beyond two
-unfolding ofBits
-beyond-two = record { far = lit≤ tt }
 
 pub beyond-eight : Beyond eight
 unfolding ofBits

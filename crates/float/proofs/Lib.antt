@@ -17,8 +17,9 @@
 --             `within-le`; `AtLeast`
 -- Bounds      the same with a factor, a * 2 ^ k, for sums of many terms and their means: `Bounded`, `bounded-add`,
 --             `bounded-mul`, `bounded-div`, `bounded-mean`, `bounded-round`, `bounded-single`
+-- Parts       from 0 to a whole number: `Part`; `round-part`, `part-mul`
 -- Amounts     finite, with the sign plus: `Amount`; `amount-root`, `amount-half`, `amount-squares`, `amount-number`,
---             `amount-above`; where a threshold is crossed: `share-bounded`
+--             `amount-above`; where a threshold is crossed: `share-part`
 -- Intervals   from tests on floats to bounds on whole numbers: `interval-is`, `floor-upto`, `ceil-upto`, `upto-back`
 -- Picks, Cuts, Wholes     floor, ceil, round by the whole number next to x
 -- Remainders  `rem-small`, and what `rem_one` does in place of `%`
@@ -55,6 +56,7 @@ pub mod Roots
 pub mod Value
 pub mod Meaning
 pub mod Bounds
+pub mod Parts
 pub mod Amounts
 pub mod Unrounded
 pub mod Ties
