@@ -6,6 +6,7 @@
 --             `fits-of-listed`, `fits-each`, `fitted-counted`, `skipped-is`, `samples-is`, `window-is`;
 --             `key-downs-balance`, `listed-balance`, `blocks-balance`; `blocks-are`, `classes-are`, `residual-is`,
 --             `evidence-is`, `hypothesis-is`; `counts-exactly`, `counts-nothing`; `list-exactly`, `list-nothing`;
+--             `run-placed`, `run-in-time`;
 --             `ranked-plain`, `side-plain`, `inner-plain`; `taken-exactly`, `kept-unchanged`, `taken-leaves`,
 --             `outside-unchanged`; `same-residual`, `same-evidence`, `same-hypothesis`
 -- RunPromises     the same, under the same names, of every accepted run: of what it answers and leaves

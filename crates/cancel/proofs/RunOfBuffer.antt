@@ -20,11 +20,14 @@ use Rattle.row.specs.Envelope.{rowOf, rowLength}
 use Rattle.row.proofs.Means.{blocks-short}
 use Rattle.rank.proofs.Sorted.{every-at}
 use Rattle.float.proofs.Amounts.{Amount}
+use Rattle.elements.specs.declared.element.KeyedElement.{KeyedElement}
 use Rattle.elements.specs.Keying.{LongKeyDowns, RowCounts, noKeyDowns}
 use Rattle.elements.specs.declared.threshold.Threshold.the-variants.{At, Absent}
 use Rattle.elements.specs.Find.{thresholdOf, foundOf}
+use Rattle.elements.specs.Times.{Placed, InTime}
 use Rattle.elements.proofs.Recording.{all-counted}
 use Rattle.elements.proofs.Exactly.{counted-exactly, counted-nothing}
+use Rattle.elements.proofs.Times.{found-placed, found-in-time}
 use Rattle.fits.specs.declared.fit.ElementFit.{ElementFit}
 use Rattle.fits.specs.declared.fit.Fit.the-variants.{Fitted}
 use Rattle.fits.specs.Fit.{fitOf}
@@ -145,6 +148,16 @@ module _ (buf : List Float) (fs hint : Float) where
     pub list-exactly : (thr : Float) → thresholdOf buf fs (ran .estimate .«carrier_hz») ≡ At thr
         → LongKeyDowns (rowOf buf fs (ran .estimate .«carrier_hz»)) thr (rowLength buf fs - 1) (stepOf fs) fs (strongElements buf fs hint)
     list-exactly thr t = rw carrier-is (strong-exactly buf fs hint singles iq-ok thr (rw carrier-is at t))
+
+    -- Its times are in order: each start lies from the centre of the window at up − 1 to the centre at up, each end
+    -- likewise for down, ends included; starts rise strictly, and no end is later than the next start.
+    pub run-placed : Rate fs → (e : KeyedElement) → List·Memᴰ e (strongElements buf fs hint) → Placed (stepOf fs) e
+    unfolding strongElements
+    run-placed = found-placed buf fs (refined buf fs hint) singles iq-ok
+
+    pub run-in-time : Rate fs → InTime (strongElements buf fs hint)
+    unfolding strongElements
+    run-in-time = found-in-time buf fs (refined buf fs hint) singles iq-ok
 
     -- The powers that the two measures rank are finite, not negative and no −0.0, whatever the class: `total_cmp` order
     -- is the order of the values. Those of the residual check, of the blocks of a class:

@@ -22,6 +22,7 @@ use Rattle.elements.specs.Element.{elementsIn}
 use Rattle.elements.specs.Keying.{LongKeyDowns, RowCounts, noKeyDowns}
 use Rattle.elements.specs.declared.threshold.Threshold.the-variants.{At, Absent}
 use Rattle.elements.specs.Find.{thresholdOf, foundOf}
+use Rattle.elements.specs.Times.{Placed, InTime}
 use Rattle.elements.proofs.Records.{elements-read}
 use Rattle.fits.specs.declared.fit.ElementFit.{ElementFit}
 use Rattle.fits.specs.declared.fit.Fit.the-variants.{Fitted}
@@ -162,6 +163,14 @@ module _ (buf : List Float) (fs hint : Float) (elements fits work : List Float) 
     pub list-exactly : (thr : Float) → thresholdOf buf fs (f .estimate .«carrier_hz») ≡ At thr
         → LongKeyDowns (rowOf buf fs (f .estimate .«carrier_hz»)) thr (rowLength buf fs - 1) (stepOf fs) fs elements-out
     list-exactly thr t = rw (elements-out-are, figures-are) (ran.list-exactly buf fs hint singles iq-ok thr (rw figures-are at t))
+
+    -- Its times are in order: each start lies from the centre of the window at up − 1 to the centre at up, each end
+    -- likewise for down, ends included; starts rise strictly, and no end is later than the next start.
+    pub run-placed : (e : KeyedElement) → List·Memᴰ e elements-out → Placed (stepOf fs) e
+    run-placed e m = ran.run-placed buf fs hint singles iq-ok rate-ok e (rw elements-out-are at m)
+
+    pub run-in-time : InTime elements-out
+    run-in-time = rw elements-out-are (ran.run-in-time buf fs hint singles iq-ok rate-ok)
 
     -- The powers that the residual check ranks are finite, not negative and no −0.0, whatever the class: of the fits
     -- of an accepted run too `total_cmp` order is the order of the values ..

@@ -6,6 +6,7 @@
 -- RunTold     the same of a run: `run-told`
 -- CallsForC   every call that writes figures: what 01 accepts is never refused, `c-accepts`; a refusal's number is that
 --             of a question asked, `c-number`
+-- FoundForC   a find or an estimate that returns 0 to C is an accepted one: `find-for-c`, `estimate-for-c`
 -- RunForC     a run that returns 0 to C is an accepted run: `run-for-c`
 -- Counts      counts among the figures are below 2^53 and exact: `count-exact`; of each call: `find-counts`,
 --             `fit-counts`, `estimate-counts`, `row-counts`, `classes-counts`, `residual-counts`, `evidence-counts`
@@ -14,6 +15,7 @@
 pub mod Ways
 pub mod RunTold
 pub mod CallsForC
+pub mod FoundForC
 pub mod RunForC
 pub mod Counts
 pub mod RunCounts

@@ -17,21 +17,24 @@ use Rattle.row.specs.Samples.{Singles}
 use Rattle.row.specs.Window.{stepOf}
 use Rattle.row.specs.Envelope.{rowOf, rowLength}
 use Rattle.elements.specs.declared.amplitude.AmplitudeRow.{AmplitudeRow}
+use Rattle.elements.specs.declared.element.KeyedElement.{KeyedElement}
 use Rattle.elements.specs.declared.keying.Found.{Found}
 use Rattle.elements.specs.Element.{elementAt, elementsIn}
 use Rattle.elements.specs.Keying.{LongKeyDowns, RowCounts, noKeyDowns}
 use Rattle.elements.specs.declared.threshold.Threshold.the-variants.{At, Absent}
 use Rattle.elements.specs.Find.{thresholdOf, amplitudeRowOf, foundAt, elementsAt, foundOf, elementsFound}
+use Rattle.elements.specs.Times.{Placed, InTime}
 use Rattle.elements.proofs.Records.{elements-read}
 use Rattle.lists.proofs.Records.{numbers-read}
 use Rattle.elements.proofs.Amplitudes.{found-by-row, elements-by-row}
 use Rattle.elements.proofs.Exactly.{handed-exactly, handed-nothing, counted-exactly, counted-nothing}
+use Rattle.elements.proofs.Times.{handed-placed, handed-in-time}
 use Rattle.fits.specs.declared.fit.ElementFit.{ElementFit}
 use Rattle.fits.specs.declared.fit.Fit.the-variants.{Fitted}
 use Rattle.fits.specs.declared.estimate.Estimate.{Estimate}
 use Rattle.fits.specs.Fit.{fitOf}
 use Rattle.fits.specs.List.{fitsIn, isSkipped, skippedOf}
-use Rattle.fits.specs.Estimate.{refined, strongEstimate}
+use Rattle.fits.specs.Estimate.{refined, strongElements, strongEstimate}
 use Rattle.fits.proofs.Records.{fits-read}
 use Rattle.fits.proofs.Fitted.{fits-are, fit-is, fitted-or-skipped}
 use Rattle.fits.proofs.Strong.{handed-strong, handed-strong-nothing, handed-strong-fits, strong-fit-is, strong-counted}
@@ -66,6 +69,21 @@ module _ (iq : List Float) (fs hz : Float) (elements work : List Float) (f : Fou
     find-counted thr t =
         let told = find-done iq fs hz elements work _ promise in
         rw (told .1) (counted-exactly iq fs hz singles (find-accepted iq fs hz _ _ (told .0) .iq-ok) thr t)
+
+    -- Each start lies from the centre of the window at up − 1 to the centre at up, each end likewise for down, ends
+    -- included ..
+    pub find-placed : (e : KeyedElement) → List·Memᴰ e (elementsIn elements-after (f .listed)) → Placed (stepOf fs) e
+    find-placed =
+        let told = find-done iq fs hz elements work _ promise in
+        let known = find-accepted iq fs hz _ _ (told .0) in
+        handed-placed iq fs hz singles (known .iq-ok) (known .rate-ok) elements-after elements (f .listed) (told .2)
+
+    -- .. and the times are in order: starts rise strictly, and no end is later than the next start.
+    pub find-in-time : InTime (elementsIn elements-after (f .listed))
+    find-in-time =
+        let told = find-done iq fs hz elements work _ promise in
+        let known = find-accepted iq fs hz _ _ (told .0) in
+        handed-in-time iq fs hz singles (known .iq-ok) (known .rate-ok) elements-after elements (f .listed) (told .2)
 
   -- With no threshold, nothing.
   pub find-nothing : thresholdOf iq fs hz ≡ Absent → (elementsIn elements-after (f .listed) ≡ []) × (f ≡ noKeyDowns)
@@ -147,6 +165,20 @@ module _ (iq : List Float) (fs hint : Float) (elements fits work : List Float) (
     estimate-counted thr t =
         let known = estimate-accepted iq fs hint _ _ _ (estimate-done iq fs hint elements fits work _ promise .0) in
         rw found-is (counted-exactly iq fs (d .«carrier_hz») singles (known .iq-ok) thr t)
+
+    pub estimate-placed : (e : KeyedElement) → List·Memᴰ e (elementsIn elements-after (d .found .listed)) → Placed (stepOf fs) e
+    unfolding strongElements
+    estimate-placed =
+        let told = estimate-done iq fs hint elements fits work _ promise in
+        let known = estimate-accepted iq fs hint _ _ _ (told .0) in
+        handed-placed iq fs (refined iq fs hint) singles (known .iq-ok) (known .rate-ok) elements-after elements (d .found .listed) (told .2)
+
+    pub estimate-in-time : InTime (elementsIn elements-after (d .found .listed))
+    unfolding strongElements
+    estimate-in-time =
+        let told = estimate-done iq fs hint elements fits work _ promise in
+        let known = estimate-accepted iq fs hint _ _ _ (told .0) in
+        handed-in-time iq fs (refined iq fs hint) singles (known .iq-ok) (known .rate-ok) elements-after elements (d .found .listed) (told .2)
 
   -- With no threshold, nothing.
   pub estimate-nothing : thresholdOf iq fs (d .«carrier_hz») ≡ Absent → (elementsIn elements-after (d .found .listed) ≡ []) × (d .found ≡ noKeyDowns)

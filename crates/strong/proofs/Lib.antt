@@ -8,7 +8,8 @@
 --             `row-elements`; `find-exactly`, `find-counted`,
 --             `find-nothing`; `fit-elements-are`, `fit-each`, `fit-skipped`; `estimate-exactly`, `estimate-counted`,
 --             `estimate-nothing`,
---             `estimate-elements-are`, `estimate-each`, `estimate-skipped`
+--             `estimate-elements-are`, `estimate-each`, `estimate-skipped`; times in their order: `find-placed`,
+--             `find-in-time`, `estimate-placed`, `estimate-in-time`
 pub mod AmplitudeAccepted
 pub mod FindAccepted
 pub mod FitAccepted
