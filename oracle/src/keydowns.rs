@@ -1,10 +1,11 @@
 //! Key-downs by document 01, parts 2 and 3, beside the Rust's find_elements: positions, counts and airtime. The listed
-//! ones are held against the Rust's own list.
+//! ones are held against the Rust's own list, and their times are to be in order (document 02, N8).
 
 use crate::by_stand_ins::way_in::{block_means, edge_window, percentile};
 use crate::by_stand_ins::{find_elements, KeyedElement, EDGE_PERCENTILE, RISE_S};
 use crate::records::Element;
 use crate::stand_ins::norm;
+use crate::times::in_order;
 use num_complex::{Complex32, Complex64};
 
 /// What a find answers: counts, airtime, and the listed elements.
@@ -76,5 +77,6 @@ pub fn key_downs_beside(iq: &[Complex32], fs: f64, carrier_hz: f64, listed: &[Ke
     }
     let mine: Vec<KeyedElement> = found.elements.iter().map(Element::keyed).collect();
     assert_eq!(mine, listed, "key-downs beside the Rust's list");
+    assert_eq!(in_order(&found.elements, step), Ok(()), "times in their order");
     found
 }

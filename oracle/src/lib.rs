@@ -22,5 +22,6 @@ pub mod scene;
 pub mod signals;
 pub mod stand_ins;
 pub mod stored;
+pub mod times;
 
 include!(concat!(env!("OUT_DIR"), "/modules.rs"));

@@ -1,7 +1,7 @@
 //! The limits, compared in every run: small recordings around every window, every change of step, each question's edge,
 //! the largest counts, hard estimates, samples of every size, evidence at every limit of a hypothesis, checks about both
-//! limits of clean, runs about each condition; and recordings of 2^20 samples. Each scene is handed to `ask` in turn, and
-//! the first error ends it.
+//! limits of clean, runs about each condition, crossings on the centres of windows; and recordings of 2^20 samples. Each
+//! scene is handed to `ask` in turn, and the first error ends it.
 
 use crate::by_stand_ins::way_in::edge_window;
 use crate::by_stand_ins::{
@@ -11,7 +11,7 @@ use crate::calls::call;
 use crate::figures::CHECK;
 use crate::questions::{LAST, MOST_FLOATS};
 use crate::random::Random;
-use crate::recordings::{change_of_step, on_off, sent, Aim};
+use crate::recordings::{change_of_step, on_centres, on_off, sent, Aim};
 use crate::scene::{Evidence, Given, Recording, Scene};
 use crate::signals::{real, senders, Sender};
 use crate::{given, noes};
@@ -26,7 +26,7 @@ pub type Limit<E> = (&'static str, fn(&mut Random, Ask<E>) -> Result<(), E>);
 pub const LONGEST: usize = 1 << 20;
 
 /// All that are cheap.
-pub fn limits<E>() -> [Limit<E>; 15] {
+pub fn limits<E>() -> [Limit<E>; 16] {
     [
         ("hypotheses at their limits", |r, ask| hypotheses(4_000, r, ask)),
         ("checks at their limits", |r, ask| checks(2_000, r, ask)),
@@ -43,6 +43,7 @@ pub fn limits<E>() -> [Limit<E>; 15] {
         ("samples of every size", sizes),
         ("pairs of gap blocks", pairs),
         ("runs about each condition", conditions),
+        ("crossings on centres", centres),
     ]
 }
 
@@ -284,6 +285,14 @@ fn prefixes(rec: &Recording) -> impl Iterator<Item = Recording> + '_ {
         ..rec.clone()
     };
     (n / 4..n).step_by((0.015 * rec.fs) as usize).map(cut)
+}
+
+/// Starts and ends on the centres of windows, and neighbours that touch.
+fn centres<E>(r: &mut Random, ask: Ask<E>) -> Result<(), E> {
+    for step in [1, 2, 3, 32, 63, 64] {
+        ask(&Scene::own(on_centres(step), r))?;
+    }
+    Ok(())
 }
 
 /// Evidence about the limits of each hypothesis.

@@ -145,8 +145,29 @@ fn row(fs: f64, r: &mut Random) -> Recording {
 /// A row of just these levels, on for so long and off for so long, in steps.
 pub fn on_off(n: usize, fs: f64, on: usize, off: usize) -> Recording {
     let step = edge_window(fs).1;
-    let iq = leading_to(n, step, |i| (i % (on + off) >= off) as i32);
+    let iq = leading_to(n, step, |i| f64::from(i % (on + off) >= off));
     Recording { what: format!("on-off row, {on} on and {off} off"), fs, iq, hint_hz: 0.0 }
+}
+
+/// A row whose crossings lie on the centres of windows, of 20 positions and more from up to down: from the threshold, to
+/// it, and, past a level beside which it is lost in rounding, where a key-down ends just where the next one starts.
+pub fn on_centres(step: usize) -> Recording {
+    let threshold = 2f64.powi(-60);
+    let most = vec![2.0 * threshold; 2_500];
+    let row = [
+        &[0.0, 0.0, threshold],
+        &[2.0 * threshold; 20][..],
+        &[threshold, 0.0, threshold],
+        &most,
+        &[1.0; 20],
+        &[0.0],
+        &[1.0; 20],
+        &[0.0, 0.0],
+    ]
+    .concat();
+    let n = (row.len() + 7) * step;
+    let iq = leading_to(n, step, |i| row[i]);
+    Recording { what: format!("crossings on centres, step {step}"), fs: (3_000 * step) as f64, iq, hint_hz: 0.0 }
 }
 
 /// Rows with as many key-downs, listed or fitted ones as there can be, and about that.
