@@ -1,33 +1,23 @@
 -- A find or an estimate that returns 0 to C is an accepted one: what every accepted one promises (`Handed` of crate
 -- strong) holds of what C then has. Assumes nothing.
-use Prim.Native.Nat.{ℕ}
-use native.Mathlib.Omega.{arith}
-use mathlib.Core.Path.{_≡_, refl, sym, ap, _∙_}
+use mathlib.Core.Path.{_≡_, sym, ap, _∙_}
 use mathlib.Core.List.{List}
-use lib.ListN.{length}
 use lib.Ieee.{Float}
 use Rattle.elements.specs.declared.element.KeyedElement.{KeyedElement}
 use Rattle.elements.specs.Find.{foundOf}
 use Rattle.lists.specs.Records.{Handed}
-use Rattle.elements.specs.Element.{handedElements}
 use Rattle.fits.specs.declared.fit.ElementFit.{ElementFit}
-use Rattle.fits.specs.List.{handedFits}
 use Rattle.fits.specs.Estimate.{strongEstimate}
-use Rattle.questions.specs.Answers.{Outcome, accepted, refused, byNumber}
+use Rattle.questions.specs.Answers.{accepted, byNumber}
 use Rattle.strong.specs.declared.find.FindAnswer.the-variants as find
 use Rattle.strong.specs.declared.estimate.EstimateAnswer.the-variants as estimate
-use Rattle.strong.specs.Find.{FindResult, findOutcome, findRule}
-use Rattle.strong.specs.Estimate.{EstimateResult, estimateOutcome, estimateRule}
+use Rattle.strong.specs.Find.{findOutcome, findRule}
+use Rattle.strong.specs.Estimate.{estimateOutcome, estimateRule}
 use Rattle.strong.proofs.FindAccepted.{find-result, find-done}
 use Rattle.strong.proofs.EstimateAccepted.{estimate-result, estimate-done}
 use Rattle.figures.specs.Calls.{foundFigures, estimateFigures}
-use Rattle.capi.specs.Calls.{Called, forC, findCalled, findTold, findCall, estimateCalled, estimateTold, estimateCall}
-
--- the result that an accepted call has told
-told-of : {L A B : Type 0} (told : A → Called B) (figures : List Float) (called : Called B) (rule : Outcome L A) → accepted called ≡ forC told figures rule
-    → (r : A) × (accepted r ≡ rule) × (called ≡ told r)
-told-of told figures called (refused n lent) e = let never : _≡_ {A = ℕ} 0 1 = cc in absurd (omega arith)
-told-of told figures called (accepted r) e = let same : called ≡ told r = cc in (r, refl, same)
+use Rattle.capi.specs.Calls.{Called, findCalled, findTold, findCall, estimateCalled, estimateTold, estimateCall}
+use Rattle.capi.proofs.Ways.{call-told}
 
 -- `promise` is what `cancel_find_elements` ensures where it returns 0
 module _ (iq : List Float) (fs hz : Float) (elements work figures-before elements-after work-after figures : List Float)
@@ -35,7 +25,7 @@ module _ (iq : List Float) (fs hz : Float) (elements work figures-before element
   pub find-for-c : (figures ≡ foundFigures (foundOf iq fs hz)) × (findOutcome (find.Done (foundOf iq fs hz)) elements-after work-after ≡ findRule iq fs hz elements work)
   unfolding findCall byNumber
   find-for-c =
-      let told = told-of findTold figures-before (record { figures = figures; lists = handedElements elements-after (foundOf iq fs hz .listed); work = length work-after }) (findRule iq fs hz elements work) promise in
+      let told = call-told findTold figures-before (findRule iq fs hz elements work) _ promise in
       let done = find-done iq fs hz elements work (told .0) (told .1) in
       let same = told .2 in (
         ap (λ (c : Called (Handed KeyedElement)). c .figures) same ∙ ap foundFigures (done .1),
@@ -54,9 +44,7 @@ module _ (iq : List Float) (fs hint : Float) (elements fits work figures-before 
       × (estimateOutcome (estimate.Done (strongEstimate iq fs hint)) elements-after fits-after work-after ≡ estimateRule iq fs hint elements fits work)
   unfolding estimateCall byNumber
   estimate-for-c =
-      let d = strongEstimate iq fs hint in
-      let told = told-of estimateTold figures-before (record { figures = figures; lists = (handedElements elements-after (d .found .listed), handedFits fits-after (d .fitted)); work = length work-after })
-      (estimateRule iq fs hint elements fits work) promise in
+      let told = call-told estimateTold figures-before (estimateRule iq fs hint elements fits work) _ promise in
       let done = estimate-done iq fs hint elements fits work (told .0) (told .1) in
       let same = told .2 in (
         ap (λ (c : Called Lists). c .figures) same ∙ ap estimateFigures (done .1),

@@ -1,5 +1,6 @@
 -- The two ways out of a call from C, by what the call of crate cancel answered. Assumes nothing.
 use Prim.Native.Nat.{ℕ, zero, suc}
+use native.Mathlib.Omega.{arith}
 use mathlib.Core.Path.{_≡_, refl, ap, _∙_}
 use mathlib.Core.List.{List}
 use lib.Ieee.{Float}
@@ -33,6 +34,11 @@ module _ {L A B : Type 0} (told : A → Called B) (figures : List Float) where
   pub done-call : (rule : Outcome L A) (called : Called B) (r : A) (lent : List Float × L) → accepted r ≡ rule → called ≡ told r → byNumber 0 called lent ≡ forC told figures rule
   unfolding byNumber
   done-call rule called r lent e q = rw (← e) (ap accepted q)
+
+  -- and back: the result that a call has told where it was accepted
+  pub call-told : (rule : Outcome L A) (called : Called B) → accepted called ≡ forC told figures rule → (r : A) × (accepted r ≡ rule) × (called ≡ told r)
+  call-told (refused n lent) called e = let never : _≡_ {A = ℕ} 0 1 = cc in absurd (omega arith)
+  call-told (accepted r) called e = let same : called ≡ told r = cc in (r, refl, same)
 
 -- an accepted call has the figures of its answer, and counts what the rules count
 module _ (work : ℕ) (figures : List Float) where
