@@ -103,8 +103,8 @@ uint64_t cancel_version(void);
 /*
  * An element: its times in samples, which lie between samples, and its positions in the amplitude row.
  *
- * In every list that a call finds, and so not of elements that are handed in: up and down are whole numbers, up at least
- * 1 and less than down. start lies from the centre of the window at up - 1 to the centre at up, ends included, and end
+ * Of every list that a call finds, but not of elements that are handed in: up and down are whole numbers, up at least 1
+ * and less than down. start lies from the centre of the window at up - 1 to the centre at up, ends included, and end
  * likewise for down; the centre of the window at i is i * step + (window - 1) / 2.0. The next element starts later than
  * this one, and not before this one ends: two neighbours may touch, not overlap.
  */

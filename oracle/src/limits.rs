@@ -1,7 +1,7 @@
 //! The limits, compared in every run: small recordings around every window, every change of step, each question's edge,
 //! the largest counts, hard estimates, samples of every size, evidence at every limit of a hypothesis, checks about both
-//! limits of clean, runs about each condition, crossings on the centres of windows; and recordings of 2^20 samples. Each
-//! scene is handed to `ask` in turn, and the first error ends it.
+//! limits of clean, runs about each condition, crossings on centres; and recordings of 2^20 samples. Each scene is
+//! handed to `ask` in turn, and the first error ends it.
 
 use crate::by_stand_ins::way_in::edge_window;
 use crate::by_stand_ins::{

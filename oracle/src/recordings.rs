@@ -149,8 +149,9 @@ pub fn on_off(n: usize, fs: f64, on: usize, off: usize) -> Recording {
     Recording { what: format!("on-off row, {on} on and {off} off"), fs, iq, hint_hz: 0.0 }
 }
 
-/// A row whose crossings lie on the centres of windows, of 20 positions and more from up to down: from the threshold, to
-/// it, and, past a level beside which it is lost in rounding, where a key-down ends just where the next one starts.
+/// A row of three key-downs whose starts and ends lie on the centres of windows. The first starts with an amplitude
+/// that is the threshold and ends after one. Beside the level 1 the threshold is lost in rounding: the second ends on
+/// the centre at down, and the third, whose up comes next, starts there.
 pub fn on_centres(step: usize) -> Recording {
     let threshold = 2f64.powi(-60);
     let most = vec![2.0 * threshold; 2_500];

@@ -1,5 +1,5 @@
-//! Times in their order (document 02, N8): of a recording whose crossings lie on the centres of windows, and that a list
-//! out of order is noticed by the last bit.
+//! Times in their order (document 02, N8): of a recording whose crossings lie on the centres of windows; and a list
+//! that is out of order by the last bit is noticed.
 
 use oracle::keydowns::{find, row, threshold};
 use oracle::recordings::on_centres;
@@ -41,7 +41,7 @@ fn out_of_order_by_the_last_bit() {
     let centre = |i: usize| twice_centre(3, i) / 2.0;
     let at =
         |up: usize, down: usize| Element { start: centre(up - 1), end: centre(down), up: up as f64, down: down as f64 };
-    // These touch, and so do the centres that the times are at.
+    // The first two touch.
     let list = [at(2, 9), at(10, 20), at(30, 40)];
     assert_eq!(in_order(&list, 3), Ok(()));
     assert_eq!(in_order(&[], 3), Ok(()));
@@ -67,7 +67,7 @@ fn out_of_order_by_the_last_bit() {
             assert!(wrong(place, &|e| e.down = position).contains("no positions"), "{position}");
         }
     }
-    // Each in its own place, but not in turn: the same twice, and the end of one at the next one's start and a bit more.
+    // Each in its own place, but not in turn: the same twice, the later one first, an end just after the next start.
     assert!(in_order(&[list[0], list[0]], 3).unwrap_err().contains("the starts do not rise"));
     assert!(in_order(&[list[2], list[1]], 3).unwrap_err().contains("the starts do not rise"));
     let over = |end| [Element { end, ..at(2, 10) }, at(10, 20)];

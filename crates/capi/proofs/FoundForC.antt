@@ -1,5 +1,5 @@
--- A find or an estimate that returns 0 to C is an accepted one: what every accepted one promises (`Handed` of crate
--- strong) holds of what C then has. Assumes nothing.
+-- A find or an estimate that returns 0 to C is an accepted one: what `Handed` of crate strong says of every accepted
+-- one, where each number of the recording is an f32, holds of what C then has. Assumes nothing.
 use mathlib.Core.Path.{_≡_, sym, ap, _∙_}
 use mathlib.Core.List.{List}
 use lib.Ieee.{Float}

@@ -1,8 +1,8 @@
 -- Laws that the proofs of `capi` share, by subject.
 
 -- Ways        the two ways out of a call: `refused-call`, `done-call`, without figures `refused-way`; back from what C
---             has to the result: `call-told`; the result of an accepted call, for C: `find-told`, `fit-told`, `estimate-told`, `measure-told`,
---             `numbers-told`
+--             has to the result: `call-told`; the result of an accepted call, for C: `find-told`, `fit-told`,
+--             `estimate-told`, `measure-told`, `numbers-told`
 -- RunTold     the same of a run: `run-told`
 -- CallsForC   every call that writes figures: what 01 accepts is never refused, `c-accepts`; a refusal's number is that
 --             of a question asked, `c-number`

@@ -35,7 +35,7 @@ use Rattle.elements.specs.Find.{halfOf, thresholdOf, keyDownsAt, element
 use Rattle.elements.specs.declared.element.KeyedElement.{KeyedElement}
 use Rattle.elements.specs.Keying.{KeyDown, IsKeyDown, keyDowns, crossedAt, elementOf, listedOf, elementsOf, elementsTo}
 use Rattle.elements.specs.Times.{twiceCentre, LiesBetween}
-use Rattle.elements.proofs.KeyDowns.{key-down-later, members, listed-is, key-down-is}
+use Rattle.elements.proofs.KeyDowns.{up-at-least-one, members, listed-is, key-down-is}
 use Rattle.elements.proofs.Centres.{Crossed, crossed-between, between-bounded}
 
 -- ---- one element
@@ -53,7 +53,7 @@ module _ (row : ℕ → Float) (thr : Float) (step last : ℕ) (some : 0 < step)
   between i p l c = crossed-between row thr step i some s p (omega arith) (each (i - 1) (omega arith)) (each i l) t c
 
   pub start-between : LiesBetween (twiceCentre step (k .up - 1)) (twiceCentre step (k .up)) (crossedAt row thr step (k .up))
-  start-between = between (k .up) (key-down-later row thr last k is) (omega (arith, is .later, is .within)) (inl (is .rises))
+  start-between = between (k .up) (up-at-least-one row thr last k is) (omega (arith, is .later, is .within)) (inl (is .rises))
 
   pub end-between : LiesBetween (twiceCentre step (k .down - 1)) (twiceCentre step (k .down)) (crossedAt row thr step (k .down))
   end-between = between (k .down) (omega (arith, is .later)) (is .within) (inr (is .falls))

@@ -1,20 +1,20 @@
--- Centres of windows, and the times of crossings between them (02, N8). The f64 computed for a centre is exactly that
--- number of halves (`centre-is`); the time of a crossing at i lies from the centre at i − 1 to the centre at i
+-- Centres of windows, and the times of crossings between them (02, N8). The f64 computed for a centre is exactly half
+-- of `twiceCentre` (`centre-is`); the time of a crossing at i lies from the centre at i − 1 to the centre at i
 -- (`crossed-between`): what lies between two numbers of halves is rounded to what lies between them, since both are
--- values of the format. What lies between is in order (`between-lt`, `between-le`). Assumes nothing.
+-- values of the format. Of two values, one whose upper end is not above the other's lower end is not above the other
+-- (`between-le`), and below it if the ends differ (`between-lt`). Assumes nothing.
 use mathlib.Core.Path.{_≡_, refl, sym, ap, _∙_, subst}
 use mathlib.Core.Logic.{_⊎_, inl, inr, ⊎-elim}
 use mathlib.Core.Bool.{Bool, true, false}
 use Prim.Native.Nat.{ℕ, _+_, _-_, _*_, _^_, _≤_, _<_}
 use native.Mathlib.Nat.{mul-one, mul-assoc, mul-comm, mul-right-comm, mul-pos, mul-le-mul, mul-le-mul-right, le-of-mul-le-mul-right}
 use native.Mathlib.Omega.{arith}
-use lib.Dec.{T, lit≤, lit<}
+use lib.Dec.{lit≤, lit<}
 use lib.IntN.{negsuc}
 use lib.Ieee.{Float, nan, inf, fin, binary64, up, down, round, sum, lt, le}
 use lib.Ieee.Bits.{is-true}
 use lib.Ieee.Exact.{HasValue}
 use lib.Ieee.Order.{round-mono, le-of-values}
-use lib.Ieee.Scale.{finite}
 use lib.Ieee.Positive.{num, den, den-pos}
 use Rattle.lists.proofs.Every.{and-left, and-right}
 use Rattle.float.specs.Ops.{_⊕_, _⊖_, _⊗_, _⊘_, of, one, two}
@@ -23,7 +23,7 @@ use Rattle.float.proofs.Exactly.{few-exact}
 use Rattle.float.proofs.Compared.{le→value, cross→lt, yes}
 use Rattle.float.proofs.Sums.{add-over, div-over, sum-plus, sum-less}
 use Rattle.float.proofs.Counts.{whole-value, whole-sub}
-use Rattle.float.proofs.Signs.{Signed, round-signed}
+use Rattle.float.proofs.Signs.{signed-value, round-signed}
 use Rattle.float.proofs.Bounds.{Bounded, round-bounded, bounded-finite}
 use Rattle.float.proofs.Parts.{Part, part-mul}
 use Rattle.float.proofs.Amounts.{Amount, Crosses, share-part}
@@ -37,20 +37,15 @@ use Rattle.elements.specs.Times.{twiceCentre, LiesBetween}
 half-exact : (n : ℕ) → n < 2 ^ 53 → HasValue (round binary64 false n 2) false n 2
 half-exact n h = few-exact binary64 false n (negsuc 0) (lit≤ tt) h
 
-own : (s : Bool) (x : Float) → Signed s x → T (finite x) → HasValue x s (num x) (den x)
-own s nan p h = absurd p
-own s (inf t) p h = absurd h
-own s (fin t m e) p h = (p, refl)
-
 round-between : (lo hi n d : ℕ) → 0 < d → lo < 2 ^ 53 → hi < 2 ^ 53 → lo * d ≤ 2 * n → 2 * n ≤ hi * d → LiesBetween lo hi (round binary64 false n d)
 round-between lo hi n d D L H h g =
     let x = round binary64 false n d in
-    let v : HasValue x false (num x) (den x) = own false x (round-signed binary64 false n d) (bounded-finite (round-bounded 0 hi false n d D (omega arith) (lit≤ tt) (omega arith))) in
+    let v : HasValue x false (num x) (den x) = signed-value false x (round-signed binary64 false n d) (bounded-finite (round-bounded 0 hi false n d D (omega arith) (lit≤ tt) (omega arith))) in
     let low = le→value (round binary64 false lo 2) x lo 2 (num x) (den x) (lit< tt) (den-pos x) (half-exact lo L) v (round-mono binary64 lo 2 n d (lit< tt) D (omega arith)) in
     let high = le→value x (round binary64 false hi 2) (num x) (den x) hi 2 (den-pos x) (lit< tt) v (half-exact hi H) (round-mono binary64 n d hi 2 D (lit< tt) (omega arith)) in
     record { a = num x; c = den x; some = den-pos x; value = v; from = omega arith; to = omega arith }
 
--- ---- what lies between is in order
+-- ---- two values, the upper end of one and the lower end of the other
 
 module _ {lo m n hi : ℕ} {x y : Float} (v : LiesBetween lo m x) (w : LiesBetween n hi y) where
   cross : (2 * (v .a * w .c) ≤ m * (v .c * w .c)) × (n * (v .c * w .c) ≤ 2 * (w .a * v .c))

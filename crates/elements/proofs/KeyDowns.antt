@@ -64,8 +64,9 @@ module _ (row : ℕ → Float) (thr : Float) where
       let b = and-right (lt (row 0) thr) (le thr (row 0)) h in
       false≢true (sym a ∙ b)
 
-  pub key-down-later : (last : ℕ) (k : KeyDown) → IsKeyDown row thr last k → 0 < k .up
-  key-down-later last k is = ⊎-elim (λ z. absurd (first-not-up (subst (λ i. upward row thr i ≡ true) z (is .rises)))) (λ p. p) (eq-zero-or-pos (k .up))
+  -- so that a key-down has an amplitude before it
+  pub up-at-least-one : (last : ℕ) (k : KeyDown) → IsKeyDown row thr last k → 0 < k .up
+  up-at-least-one last k is = ⊎-elim (λ z. absurd (first-not-up (subst (λ i. upward row thr i ≡ true) z (is .rises)))) (λ p. p) (eq-zero-or-pos (k .up))
 
   pub pending-at : (j u : ℕ) → upward row thr u ≡ true → u ≤ j → ((m : ℕ) → u < m → m ≤ j → quiet m) → pending row thr j ≡ At u
   pending-at zero u h le-j q = let none : u ≡ 0 = omega arith in absurd (first-not-up (subst (λ k. upward row thr k ≡ true) none h))

@@ -8,7 +8,7 @@
 -- KeyDowns    which pairs `keyDowns` has: `key-down-is`; their order: `in-order`; `listed-is`, `places`
 -- Same        rows that agree have the same key-downs, counts and elements
 -- Centres     the centre of a window is a number of halves: `centre-is`; a crossing lies between two of them:
---             `crossed-between`; what lies between is in order: `between-lt`, `between-le`
+--             `crossed-between`; two values that lie one behind the other: `between-lt`, `between-le`
 -- Bounds      the numbers of every element found are finite: `found-bounded`; `threshold-amount`, `recorded-is`,
 --             `some-row`
 -- Recording   counts of a recording: `key-downs-counted`, `listed-counted`, `all-counted`; `enough-places`

@@ -1,8 +1,8 @@
--- The times of the elements found, in their order (02, N8). Of every recording of finite f32, at any rate and carrier:
--- each start lies from the centre of the window at up − 1 to the centre at up, and each end likewise for down, ends
--- included (`found-placed`); starts rise strictly, and no end is later than the next start or any later one
--- (`found-in-time`). The times are the f64 that are computed; what is compared is their exact value too
--- (`before-exactly`). Assumes nothing.
+-- The times of the elements found, in their order (02, N8). Of every recording of f32 that questions 2 and 3 accept, at
+-- every rate that question 1 accepts and at any carrier: each start lies from the centre of the window at up − 1 to the
+-- centre at up, and each end likewise for down, ends included (`found-placed`); starts rise strictly, and no end is
+-- later than the next start or any later one (`found-in-time`). The times are the f64 that are computed; what is
+-- compared is their exact value too (`before-exactly`). Assumes nothing.
 use mathlib.Core.Path.{_≡_, refl, subst}
 use mathlib.Core.Bool.{false}
 use mathlib.Core.List.{List, [], _∷_, map, List·Memᴰ, List·Memᴰ·head, List·Memᴰ·tail, List·Memᴰ·not-nil, Memᴰ·of-map}
@@ -27,7 +27,7 @@ use Rattle.elements.specs.Element.{ELEMENT, elementsIn, handedElements}
 use Rattle.elements.specs.Keying.{KeyDown, IsKeyDown, InOrder, LongKeyDowns, elementOf}
 use Rattle.elements.specs.Find.{thresholdOf, elementsFound}
 use Rattle.elements.specs.Times.{Placed, Before, InTime}
-use Rattle.elements.proofs.KeyDowns.{key-down-later}
+use Rattle.elements.proofs.KeyDowns.{up-at-least-one}
 use Rattle.elements.proofs.Centres.{between-le, between-lt}
 use Rattle.elements.proofs.Bounds.{start-between, end-between, last-amount, threshold-amount}
 use Rattle.elements.proofs.Exactly.{found-exactly, found-nothing}
@@ -52,7 +52,7 @@ module _ (row : ℕ → Float) (thr : Float) (step last : ℕ) (some : 0 < step)
         d = k .down;
         up-is = whole-value binary64 (k .up) (omega arith);
         down-is = whole-value binary64 (k .down) (omega arith);
-        first = key-down-later row thr last k is;
+        first = up-at-least-one row thr last k is;
         later = later;
         start = start-between row thr step last some s h each t k is;
         end = end-between row thr step last some s h each t k is;

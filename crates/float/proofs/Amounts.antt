@@ -25,7 +25,7 @@ use Rattle.float.proofs.Exactly.{neg-round, round-value, fits-says, exp
 use Rattle.float.proofs.Compared.{lt→cross, le→value}
 use Rattle.float.proofs.Sums.{sub-over, div-over, neg-value}
 use Rattle.float.proofs.Meaning.{root-of-units}
-use Rattle.float.proofs.Signs.{Signed, round-signed, number-signed, add-signed, square-signed}
+use Rattle.float.proofs.Signs.{Signed, signed-value, round-signed, number-signed, add-signed, square-signed}
 use Rattle.float.proofs.Monotone.{signed-le}
 use Rattle.float.proofs.Bounds.{Bounded, bounded-finite, bounded-mul, bounded-add, finite-number}
 use Rattle.float.proofs.Parts.{Part, round-none, round-part}
@@ -161,10 +161,7 @@ amount-squares {k} {a} {x} {y} p q h g =
 -- ---- where a line crosses a threshold
 
 own : (x : Float) → T (unsigned x) → HasValue x false (num x) (den x)
-own nan h = absurd h
-own (inf s) h = absurd h
-own (fin true m e) h = absurd h
-own (fin false m e) h = (refl, refl)
+own x h = signed-value false x (unsigned-signed x h) (unsigned-finite x h)
 
 -- a rounded value has its size, whatever its sign
 sized : (s : Bool) (n d : ℕ) → Amount (round binary64 false n d) → HasValue (round binary64 s n d) s (num (round binary64 false n d)) (den (round binary64 false n d))

@@ -9,6 +9,8 @@ use lib.Dec.{T, ltb}
 use lib.Ieee.{Float, nan, inf, fin, Format, prec, emax, low, up, down, odd, units, round, sum, add, mul, isNan}
 use lib.Ieee.Fits.{round-is as round-core}
 use lib.Ieee.Exact.{HasValue, odd-sign}
+use lib.Ieee.Scale.{finite}
+use lib.Ieee.Positive.{num, den}
 use Rattle.float.proofs.Sums.{sum-plus}
 
 -- ---- a rounded value has the sign that it was given
@@ -21,6 +23,12 @@ pub value-signed : (x : Float) (s : Bool) (a c : ℕ) → HasValue x s a c → S
 value-signed nan s a c v = v
 value-signed (inf t) s a c v = absurd v
 value-signed (fin t m e) s a c v = v .0
+
+-- a finite value is its own fraction
+pub signed-value : (s : Bool) (x : Float) → Signed s x → T (finite x) → HasValue x s (num x) (den x)
+signed-value s nan p h = absurd p
+signed-value s (inf t) p h = absurd h
+signed-value s (fin t m e) p h = (p, refl)
 
 units-signed : (f : Format) (s : Bool) (q k : ℕ) → Signed s (units f s q k)
 unfolding units

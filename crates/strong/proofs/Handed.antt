@@ -166,6 +166,7 @@ module _ (iq : List Float) (fs hint : Float) (elements fits work : List Float) (
         let known = estimate-accepted iq fs hint _ _ _ (estimate-done iq fs hint elements fits work _ promise .0) in
         rw found-is (counted-exactly iq fs (d .«carrier_hz») singles (known .iq-ok) thr t)
 
+    -- Their times lie between centres and are in order, as those of find_elements.
     pub estimate-placed : (e : KeyedElement) → List·Memᴰ e (elementsIn elements-after (d .found .listed)) → Placed (stepOf fs) e
     unfolding strongElements
     estimate-placed =
