@@ -5,7 +5,7 @@
  * and -lm.
  *
  * A recording is n complex samples, lent as 2n floats, real part then imaginary part. fs is samples per second. step
- * and window = 8 * step follow from fs: step is fs / 3000 rounded, at least 1. B = n / step, rounded down;
+ * and window = 8 * step follow from fs: step is fs / 3000 rounded, halves up. B = n / step, rounded down;
  * cancel_blocks answers it.
  *
  * Slices. A slice is a pointer and its length in numbers, not bytes and not records. Pointers are aligned and never
@@ -101,7 +101,7 @@ uint64_t cancel_version(void);
 #define CANCEL_WORK_LEN(blocks) ((blocks) * 4)
 
 /*
- * An element: its times in samples, which lie between samples, and its positions in the amplitude row.
+ * An element: its times in samples, which may lie between two, and its positions in the amplitude row.
  *
  * Of every list that a call finds, but not of elements that are handed in: up and down are whole numbers, up at least 1
  * and less than down. start lies from the centre of the window at up - 1 to the centre at up, ends included, and end

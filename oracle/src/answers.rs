@@ -57,7 +57,11 @@ pub fn find_elements(s: &Scene) -> Answer {
     Answer {
         figures: counts(&found).to_vec(),
         elements: records::flat_elements(&found.elements),
-        kinds: kinds(&[(!found.elements.is_empty(), "with elements"), (found.short > 0, "with short ones")]),
+        kinds: kinds(&[
+            (!found.elements.is_empty(), "with elements"),
+            (found.short > 0, "with short ones"),
+            (found.elements.windows(2).any(|next| next[0].end == next[1].start), "with neighbours that touch"),
+        ]),
         ..Answer::default()
     }
 }

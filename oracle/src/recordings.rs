@@ -150,8 +150,9 @@ pub fn on_off(n: usize, fs: f64, on: usize, off: usize) -> Recording {
 }
 
 /// A row of three key-downs whose starts and ends lie on the centres of windows. The first starts with an amplitude
-/// that is the threshold and ends after one. Beside the level 1 the threshold is lost in rounding: the second ends on
-/// the centre at down, and the third, whose up comes next, starts there.
+/// that is the threshold and ends after one. Beside the level 1 the threshold is lost in rounding, in the sums too,
+/// which are whole from there on: the second ends on the centre at down, and the third, whose up comes next, starts
+/// there.
 pub fn on_centres(step: usize) -> Recording {
     let threshold = 2f64.powi(-60);
     let most = vec![2.0 * threshold; 2_500];

@@ -94,8 +94,8 @@ pub fn real(n: usize, value: impl Fn(usize) -> f32) -> Vec<f32> {
     (0..n).flat_map(|k| [value(k), 0.0]).collect()
 }
 
-/// n samples whose amplitude row at carrier 0 holds just these levels, where every sum is exact, as of small whole
-/// numbers. The blocks of a row differ from those eight before by what the row changes.
+/// n samples whose amplitude row at carrier 0 holds just these levels, if they are small whole numbers, so that every
+/// sum is exact. The blocks of a row differ from those eight before by what the row changes.
 pub fn leading_to(n: usize, step: usize, level: impl Fn(usize) -> f64) -> Vec<f32> {
     let mut blocks = vec![level(0); 8.min(n / step)];
     for i in blocks.len()..n / step {

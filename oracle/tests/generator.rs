@@ -72,6 +72,8 @@ fn every_call_answers() {
         ask(&noes::refused(&admitted, &mut r)).unwrap();
     }
     kinds.iter().for_each(|(kind, times)| println!("{times:6} {kind}"));
+    let touching = kinds.get(&format!("{:31} with neighbours that touch", "cancel_find_elements"));
+    assert!(touching.is_some_and(|&times| times >= 6), "one at each step of the limit, at least");
     // Each call refuses by each question that it asks and by no other.
     for (name, numbers) in [
         ("cancel_find_elements", &[1, 2, 3, 4, 5, 6][..]),

@@ -17,11 +17,19 @@ fn down(time: f64) -> f64 {
 
 #[test]
 fn crossings_on_centres() {
-    for step in [1, 2, 32, 64] {
+    for step in [1, 2, 3, 32, 63, 64] {
         let rec = on_centres(step);
         let iq = samples(&rec.iq);
         let row = row(&iq, rec.fs, 0.0);
-        assert_eq!((row.len(), threshold(&row)), (2_569, Some(2f64.powi(-60))));
+        let level = 2f64.powi(-60);
+        let levels = |at: usize| match at {
+            0 | 1 | 24 | 2_546 | 2_567 | 2_568 => 0.0,
+            2 | 23 | 25 => level,
+            2_526.. => 1.0,
+            _ => 2.0 * level,
+        };
+        assert_eq!((row.len(), threshold(&row)), (2_569, Some(level)));
+        assert!((0..row.len()).all(|at| row[at] == levels(at)), "the row, in spite of what is rounded on the way");
         let centre = |i| twice_centre(step, i) / 2.0;
         let found = find(&iq, rec.fs, 0.0).elements;
         let positions: Vec<_> = found.iter().map(|e| (e.up, e.down)).collect();
@@ -73,4 +81,12 @@ fn out_of_order_by_the_last_bit() {
     let over = |end| [Element { end, ..at(2, 10) }, at(10, 20)];
     assert_eq!(in_order(&over(centre(9)), 3), Ok(()));
     assert!(in_order(&over(up(centre(9))), 3).unwrap_err().contains("the end is later than the next start"));
+    // The same behind a pair that is in order, and with one behind it.
+    for last in [&[][..], &[at(90, 99)]] {
+        let behind = [&[at(1, 2), at(40, 50)][..], &[at(60, 70), at(60, 70)], last].concat();
+        assert!(in_order(&behind, 3).unwrap_err().contains("the starts do not rise"));
+        let later = Element { end: up(centre(69)), ..at(60, 70) };
+        let behind = [&[at(1, 2), at(40, 50)][..], &[later, at(70, 80)], last].concat();
+        assert!(in_order(&behind, 3).unwrap_err().contains("the end is later than the next start"));
+    }
 }

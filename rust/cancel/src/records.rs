@@ -36,8 +36,8 @@ pub struct KeyedElement {
 /// The key-downs of every list that is found are in the order of their times, which is proved: each start lies from the
 /// centre of the window at `up − 1` to the centre at `up`, ends included, each end likewise for `down`; each start is
 /// later than the one before, and no end is later than the next start, so that two neighbours may touch, not overlap.
-/// `up` is at least 1 and less than `down`. The centre of the window at `i` is `i × step + (8 × step − 1) / 2`, where
-/// `step` is `fs / 3000` rounded, at least 1.
+/// `up` is at least 1 and less than `down`. The centre of the window at `i` is `i × step + (8 × step − 1) / 2.0`, where
+/// `step` is `fs / 3000` rounded, halves up.
 #[derive(Debug, Clone, Copy, PartialEq)]
 #[cfg_attr(feature = "serde", derive(serde::Serialize, serde::Deserialize))]
 pub struct KeyDown {

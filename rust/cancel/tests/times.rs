@@ -7,8 +7,9 @@ fn twice_centre(step: usize, i: usize) -> f64 {
     (2 * i * step + 8 * step - 1) as f64
 }
 
+/// Halves go up.
 fn step(fs: f64) -> usize {
-    (fs / 3_000.0).round().max(1.0) as usize
+    (fs / 3_000.0).round() as usize
 }
 
 /// Whether each time is in its place, and they are in turn.
@@ -61,7 +62,9 @@ fn in_their_order() {
     for (samples, fs, unit_s, carrier_hz) in [
         (16_000, 3_000.0, 0.06, 40.0),
         (16_000, 2_000.0, 0.02, -999.5),
-        (24_001, 4_499.0, 0.013, 0.0),
+        (24_001, 4_499.99, 0.013, 0.0),
+        (24_001, 4_500.0, 0.013, 0.0),
+        (24_001, 7_500.0, 0.013, 0.0),
         (60_000, 44_100.0, 0.03, 12_000.0),
         (120_000, 192_000.0, 0.011, -350.25),
     ] {
@@ -70,8 +73,9 @@ fn in_their_order() {
         assert!(in_order(&found, step(fs)), "{fs}: {found:?}");
         let estimated: Vec<_> = workspace.estimate_strong(&iq, fs, carrier_hz).unwrap().elements().collect();
         assert!(in_order(&estimated, step(fs)), "{fs}: {estimated:?}");
-        let ran: Vec<_> = workspace.run(&mut iq, fs, carrier_hz).unwrap().elements().collect();
-        assert_eq!(ran, estimated);
+        let ran = workspace.run(&mut iq, fs, carrier_hz).unwrap();
+        assert_eq!(ran.figures.window, 8 * step(fs));
+        assert_eq!(ran.elements().collect::<Vec<_>>(), estimated);
         elements += found.len().min(estimated.len());
     }
     assert!(elements > 100, "{elements}");
@@ -111,18 +115,34 @@ fn out_of_order_is_told() {
         up,
         down,
     };
-    let list = [at(2, 9), at(10, 20)];
-    assert!(in_order(&list, 2));
-    let changed = |change: &dyn Fn(&mut KeyDown)| {
-        let mut list = list;
-        change(&mut list[0]);
-        in_order(&list, 2)
-    };
+    let list = [at(2, 9), at(10, 20), at(30, 40)];
+    assert!(in_order(&list, 2) && in_order(&[], 2));
+    let centre = |i: usize| twice_centre(2, i) / 2.0;
     let bit = |time: f64, more: bool| f64::from_bits(if more { time.to_bits() + 1 } else { time.to_bits() - 1 });
-    assert!(!changed(&|e| e.element.start = bit(e.element.start, false)));
-    assert!(!changed(&|e| e.element.end = bit(e.element.end, true)));
-    assert!(!changed(&|e| e.element.end = bit(twice_centre(2, e.down - 1) / 2.0, false)));
-    assert!(!changed(&|e| e.element.start = bit(twice_centre(2, e.up) / 2.0, true)));
-    assert!(!in_order(&[list[0], list[0]], 2) && !in_order(&[list[1], list[0]], 2));
-    assert!(in_order(&[at(2, 9), at(10, 20)], 2) && !in_order(&[at(2, 10), at(10, 20)], 2));
+    for place in 0..3 {
+        let in_order_with = |change: &dyn Fn(&mut KeyDown)| {
+            let mut list = list;
+            change(&mut list[place]);
+            in_order(&list, 2)
+        };
+        assert!(in_order_with(&|e| e.element.start = centre(e.up)));
+        assert!(in_order_with(&|e| e.element.end = centre(e.down - 1)));
+        assert!(!in_order_with(&|e| e.element.start = bit(e.element.start, false)));
+        assert!(!in_order_with(&|e| e.element.start = bit(centre(e.up), true)));
+        assert!(!in_order_with(&|e| e.element.end = bit(e.element.end, true)));
+        assert!(!in_order_with(&|e| e.element.end = bit(centre(e.down - 1), false)));
+        assert!(!in_order_with(&|e| (e.up, e.element.start) = (0, centre(0))));
+        assert!(!in_order_with(&|e| (e.down, e.element.end) = (e.up, centre(e.up))));
+    }
+    // Each in its own place, but not in turn; with one before and one behind, which are.
+    for (this, next) in [(at(12, 20), at(12, 20)), (at(22, 30), at(12, 20)), (at(12, 20), at(20, 30))] {
+        assert!(in_order(&[this], 2) && in_order(&[next], 2));
+        assert!(!in_order(&[this, next], 2));
+        assert!(!in_order(&[at(2, 9), this, next], 2));
+        assert!(!in_order(&[this, next, at(40, 50)], 2));
+    }
+    // A key-down of one position may start and end on one centre; the next one starts later all the same.
+    let of = |start, end, up, down| KeyDown { element: cancel::KeyedElement { start, end }, up, down };
+    assert!(in_order(&[of(centre(1), centre(2), 2, 3), of(centre(2), centre(9), 3, 9)], 2));
+    assert!(!in_order(&[of(centre(2), centre(2), 2, 3), of(centre(2), centre(9), 3, 9)], 2));
 }
