@@ -3,10 +3,10 @@
 -- `element-bounded` is of one key-down, `elements-bounded` of all that a row has. Of a recording of finite f32, at
 -- any carrier: `threshold-amount`, `recorded-is`, `found-bounded`. Assumes nothing.
 use mathlib.Core.Path.{_≡_, refl, sym, ap, _∙_, subst}
-use mathlib.Core.Logic.{_⊎_, inl, inr, ⊎-elim, _↔_}
+use mathlib.Core.Logic.{_⊎_, inl, inr, _↔_}
 use mathlib.Core.Bool.{Bool, true, false, cond}
 use mathlib.Core.List.{List, List·Memᴰ, List·Memᴰ·not-nil, Memᴰ·of-map}
-use Prim.Native.Nat.{ℕ, _+_, _-_, _*_, _^_, _≤_, _<_}
+use Prim.Native.Nat.{ℕ, _-_, _*_, _^_, _≤_, _<_}
 use native.Mathlib.Nat.{mul-le-mul, eq-zero-or-pos}
 use native.Mathlib.Omega.{arith}
 use lib.Dec.{lit≤}
@@ -101,6 +101,10 @@ some-row iq fs carrier thr e = go (eq-zero-or-pos (rowLength iq fs))
         let no : _≡_ {A = ℕ} 0 1 = cc in absurd (omega arith)
     go (inr p) = p
 
+-- a row has at most 2^20 positions
+pub short-row : (iq : List Float) (fs : Float) → Iq iq → rowLength iq fs - 1 ≤ 2 ^ 20
+short-row iq fs q = let few : blocks iq (stepOf fs) ≤ 2 ^ 20 = blocks-short iq (stepOf fs) (q .short) in omega arith
+
 module _ (iq : List Float) (fs carrier : Float) (s : Singles iq) (q : Iq iq) where
   listed-amount : (i : ℕ) → i < length (firsts (rowOf iq fs carrier) (rowLength iq fs)) → Amount (getD (firsts (rowOf iq fs carrier) (rowLength iq fs)) i nan)
   listed-amount i h =
@@ -142,7 +146,6 @@ module _ (iq : List Float) (fs carrier : Float) (s : Singles iq) (q : Iq iq) whe
     where
       go : (p : Threshold) → thresholdOf iq fs carrier ≡ p → List·Memᴰ e (elementsAt (rowOf iq fs carrier) (rowLength iq fs - 1) (stepOf fs) fs p) → Plain e
       go (At thr) t m =
-          let few : blocks iq (stepOf fs) ≤ 2 ^ 20 = blocks-short iq (stepOf fs) (q .short) in
-          elements-bounded (rowOf iq fs carrier) thr (stepOf fs) fs (rowLength iq fs - 1) (step-low fs) (step-high fs r) (omega arith)
+          elements-bounded (rowOf iq fs carrier) thr (stepOf fs) fs (rowLength iq fs - 1) (step-low fs) (step-high fs r) (short-row iq fs q)
           (last-amount thr t) (threshold-amount thr t) e m
       go Absent t m = absurd (List·Memᴰ·not-nil m)

@@ -17,7 +17,7 @@ use lib.Ieee.Exact.{HasValue}
 use lib.Ieee.Order.{round-mono, le-of-values}
 use lib.Ieee.Positive.{num, den, den-pos}
 use Rattle.lists.proofs.Every.{and-left, and-right}
-use Rattle.float.specs.Ops.{_⊕_, _⊖_, _⊗_, _⊘_, of, one, two}
+use Rattle.float.specs.Ops.{_⊕_, _⊖_, _⊘_, of, one, two}
 use Rattle.float.proofs.Literals.{literals}
 use Rattle.float.proofs.Exactly.{few-exact}
 use Rattle.float.proofs.Compared.{le→value, cross→lt, yes}
@@ -69,7 +69,7 @@ module _ {lo m n hi : ℕ} {x y : Float} (v : LiesBetween lo m x) (w : LiesBetwe
       let some : 0 < v .c * w .c = mul-pos (v .some) (w .some) in
       is-true (lt x y) (cross→lt x y (v .a) (v .c) (w .a) (w .c) (v .some) (w .some) (v .value) (w .value) (omega arith))
 
--- and no larger than its upper end
+-- a value that lies between is no larger than its upper end
 pub between-bounded : (b : ℕ) {lo hi : ℕ} {x : Float} → hi ≤ 2 * b → LiesBetween lo hi x → Bounded 0 b x
 between-bounded b {lo} {hi} {x} h v = go x (v .value)
   where

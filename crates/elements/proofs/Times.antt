@@ -16,9 +16,8 @@ use Rattle.float.proofs.Counts.{whole-value}
 use Rattle.float.proofs.Amounts.{Amount}
 use Rattle.lists.specs.Records.{handed}
 use Rattle.row.specs.Samples.{Singles, Iq}
-use Rattle.row.specs.Window.{Rate, stepOf, blocks}
+use Rattle.row.specs.Window.{Rate, stepOf}
 use Rattle.row.specs.Envelope.{rowOf, rowLength}
-use Rattle.row.proofs.Means.{blocks-short}
 use Rattle.row.proofs.Steps.{step-low, step-high}
 use Rattle.elements.specs.declared.element.KeyedElement.{KeyedElement}
 use Rattle.elements.specs.declared.threshold.Threshold.{Threshold}
@@ -29,7 +28,7 @@ use Rattle.elements.specs.Find.{thresholdOf, elementsFound}
 use Rattle.elements.specs.Times.{Placed, Before, InTime}
 use Rattle.elements.proofs.KeyDowns.{up-at-least-one}
 use Rattle.elements.proofs.Centres.{between-le, between-lt}
-use Rattle.elements.proofs.Bounds.{start-between, end-between, last-amount, threshold-amount}
+use Rattle.elements.proofs.Bounds.{start-between, end-between, short-row, last-amount, threshold-amount}
 use Rattle.elements.proofs.Exactly.{found-exactly, found-nothing}
 use Rattle.elements.proofs.Records.{elements-read}
 
@@ -84,9 +83,6 @@ module _ (row : ℕ → Float) (thr : Float) (step last : ℕ) (some : 0 < step)
 -- ---- those of a recording
 
 module _ (iq : List Float) (fs carrier : Float) (s : Singles iq) (q : Iq iq) (r : Rate fs) where
-  short-row : rowLength iq fs - 1 ≤ 2 ^ 20
-  short-row = let few : blocks iq (stepOf fs) ≤ 2 ^ 20 = blocks-short iq (stepOf fs) (q .short) in omega arith
-
   module _ (thr : Float) (t : thresholdOf iq fs carrier ≡ At thr) where
     listed : LongKeyDowns (rowOf iq fs carrier) thr (rowLength iq fs - 1) (stepOf fs) fs (elementsFound iq fs carrier)
     listed = found-exactly iq fs carrier s q thr t
@@ -95,13 +91,13 @@ module _ (iq : List Float) (fs carrier : Float) (s : Singles iq) (q : Iq iq) (r 
     placed-at e m =
         let from = Memᴰ·of-map (elementOf (rowOf iq fs carrier) thr (stepOf fs)) (listed .long-ones) (rw (listed .are) at m) in
         subst (Placed (stepOf fs)) (from .2)
-        (element-placed (rowOf iq fs carrier) thr (stepOf fs) (rowLength iq fs - 1) (step-low fs) (step-high fs r) short-row (last-amount iq fs carrier s q thr t) (threshold-amount iq fs carrier s q thr t)
+        (element-placed (rowOf iq fs carrier) thr (stepOf fs) (rowLength iq fs - 1) (step-low fs) (step-high fs r) (short-row iq fs q) (last-amount iq fs carrier s q thr t) (threshold-amount iq fs carrier s q thr t)
         (from .0) (listed .exactly (from .0) .0 (from .1) .0))
 
     in-time-at : InTime (elementsFound iq fs carrier)
     in-time-at =
         rw (listed .are)
-        (in-time (rowOf iq fs carrier) thr (stepOf fs) (rowLength iq fs - 1) (step-low fs) (step-high fs r) short-row (last-amount iq fs carrier s q thr t) (threshold-amount iq fs carrier s q thr t)
+        (in-time (rowOf iq fs carrier) thr (stepOf fs) (rowLength iq fs - 1) (step-low fs) (step-high fs r) (short-row iq fs q) (last-amount iq fs carrier s q thr t) (threshold-amount iq fs carrier s q thr t)
         (listed .long-ones) (λ k m. listed .exactly k .0 m .0) (listed .in-order))
 
   -- Each start lies from the centre of the window at up − 1 to the centre at up, and each end from the centre at
