@@ -11,7 +11,7 @@
 -- Labelled  a list with one number at the places that pass a test, and the loop that stores it
 -- Turns     members of a list that label in turn, and the loop over them
 -- Zones     from the ranges that the code computes to near, inside, at an edge, on the rim
--- Sizes     how large a window, the number of blocks and the first sample of a block are
+-- Sizes     how large a window, the number of blocks and the start of a block are
 pub mod Codes
 pub mod Classes
 pub mod Counts

@@ -1,8 +1,8 @@
--- How large a window and the first sample of a block are, and the centre of a block as the code computes it.
-use Prim.Native.Nat.{ℕ, _*_, _/_, _≤_, _<_}
+-- How large a window and the start of a block are, and the centre of a block as the code computes it.
+use Prim.Native.Nat.{ℕ, _+_, _*_, _/_, _≤_}
 use native.Mathlib.Nat.{mul-le-mul, mul-le-mul-left, div-mul-le-self}
 use native.Mathlib.Omega.{arith}
-use mathlib.Core.Path.{_≡_}
+use mathlib.Core.Path.{_≡_, refl}
 use mir.Val.{Fits}
 use mir.Syntax.{w64}
 use lib.Ieee.{Float}
@@ -24,15 +24,19 @@ blocks-few fs n m h e =
     let wide : 8 ≤ windowOf fs = omega (arith, step-low fs) in
     omega (arith, div-mul-le-self n (windowOf fs), mul-le-mul-left (n / windowOf fs) wide)
 
-block-small : (b len m : ℕ) → b < m → m ≤ 131072 → len ≤ 512 → b * len ≤ 67108864
-block-small b len m h g s = let few : b ≤ 131072 = omega arith in mul-le-mul few s
+-- where a block starts, as a number of samples
+pub start-small : (b len m from : ℕ) → b ≤ m → m ≤ 131072 → len ≤ 512 → from ≡ b * len → from ≤ 67108864
+start-small b len m from h g s e = let few : b ≤ 131072 = omega arith in omega (arith, mul-le-mul few s)
 
--- the place of a block, as a number of samples
-pub first-fits : (b len m : ℕ) → b < m → m ≤ 131072 → len ≤ 512 → Fits w64 (b * len)
-first-fits b len m h g s = record { fits = let small = block-small b len m h g s in omega arith }
+-- the first start of a loop, and each raised by the length
+pub start-fits : (b len m : ℕ) → b ≤ m → m ≤ 131072 → len ≤ 512 → Fits w64 (b * len)
+start-fits b len m h g s = record { fits = let small = start-small b len m (b * len) h g s refl in omega arith }
 
-pub first-exact : (b len m : ℕ) → b < m → m ≤ 131072 → len ≤ 512 → b * len ≤ 9007199254740992
-first-exact b len m h g s = let small = block-small b len m h g s in omega arith
+pub next-fits : (b len m from : ℕ) → b ≤ m → m ≤ 131072 → len ≤ 512 → from ≡ b * len → Fits w64 (from + len)
+next-fits b len m from h g s e = record { fits = let small = start-small b len m from h g s e in omega arith }
 
-pub centre-is : (len b : ℕ) (h a : Float) → h ≡ toCentre len → a ≡ of (b * len) → a ⊕ h ≡ blockCentre len b
-centre-is len b h a e f = rw (e, f)
+pub start-exact : (b len m from : ℕ) → b ≤ m → m ≤ 131072 → len ≤ 512 → from ≡ b * len → from ≤ 9007199254740992
+start-exact b len m from h g s e = let small = start-small b len m from h g s e in omega arith
+
+pub centre-is : (len b from : ℕ) (h a : Float) → from ≡ b * len → h ≡ toCentre len → a ≡ of from → a ⊕ h ≡ blockCentre len b
+centre-is len b from h a g e f = rw (e, f, g)

@@ -86,11 +86,13 @@ fn label_amid(len: usize, lo: f64, hi: f64, x: f64, class: &mut [f64])
     let a = first_from(len, lo);
     let e = float::least(past_last(len, hi), class.len());
     let half = to_centre(len);
+    let mut from = float::least(a, e) * len;
     for b in a..e {
-        let centre = float::exact(b * len) + half;
+        let centre = float::exact(from) + half;
         if centre > lo && centre < hi {
             class[b] = x;
         }
+        from = from + len;
     }
 }
 
@@ -200,11 +202,13 @@ fn label_rim(fs: f64, len: usize, n: usize, class: &mut [f64])
     let half = to_centre(len);
     let x = code(BlockClass::Other);
     let blocks = class.len();
+    let mut from: usize = 0;
     for b in 0..blocks {
-        let centre = float::exact(b * len) + half;
+        let centre = float::exact(from) + half;
         if centre < rim || centre > last {
             class[b] = x;
         }
+        from = from + len;
     }
 }
 

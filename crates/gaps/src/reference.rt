@@ -10,7 +10,7 @@ use prepared::sections::CLASSES;
 use prepared::sections::SIDES;
 use rank::Percentile;
 use rank::select::percentile;
-use row::block_mean;
+use row::mean_from;
 ghost use mathlib.Core.Path.{_≡_};
 ghost use Prim.Native.Nat.{_+_, _*_, _≤_};
 ghost use lib.ListN.{length, take};
@@ -56,12 +56,15 @@ fn gap_powers(
         × (now (work .exit) ≡ keep (now (work .entry)) out (classIn (now (work .entry)) (CLASSES * grid .blocks) Gap) (blockPower (blockMean (now (iq .entry)) cyc (grid .window))) (grid .blocks)) ⌝ }
 {
     let blocks = grid.blocks;
+    let len = grid.window;
     let mut n: usize = 0;
+    let mut from: usize = 0;
     for b in 0..blocks {
         if is_class(work, CLASSES * blocks + b, BlockClass::Gap) {
-            work[out + n] = block_mean(iq, cyc, grid.window, b, sine).norm_sqr();
+            work[out + n] = mean_from(iq, cyc, from, len, sine).norm_sqr();
             n = n + 1;
         }
+        from = from + len;
     }
     n
 }

@@ -4,7 +4,7 @@ use constants::PAIR_FACTOR;
 use gaps::pairs::Pairs;
 use gaps::pairs::in_pair;
 use prepared::prepare::Grid;
-use row::block_mean;
+use row::mean_from;
 use trig::TAU;
 ghost use mathlib.Core.Path.{_≡_};
 ghost use mathlib.Core.Bool.{cond};
@@ -55,11 +55,14 @@ fn paired_power(
         (pairBlocks (above (classIn (now (work .entry)) (CLASSES * grid .blocks) Gap) (zAt (now (work .entry))) level) (grid .blocks)) ⌝ }
 {
     let blocks = grid.blocks;
+    let len = grid.window;
     let mut sum = -0.0;
+    let mut from: usize = 0;
     for b in 0..blocks {
         if in_pair(work, blocks, level, b) {
-            sum = sum + block_mean(iq, cyc, grid.window, b, sine).norm_sqr();
+            sum = sum + mean_from(iq, cyc, from, len, sine).norm_sqr();
         }
+        from = from + len;
     }
     sum
 }

@@ -1,8 +1,8 @@
 -- Fits taken off the blocks' means: the loops over the samples of a block, over the blocks of a span and over the fits.
-use Prim.Native.Nat.{ℕ, suc, _+_, _-_, _*_, _/_, _≤_, _<_, min, max}
+use Prim.Native.Nat.{ℕ, suc, _+_, _-_, _*_, _/_, _%_, _≤_, _<_, min, max}
 use native.Mathlib.Numerals.{add-one}
 use native.Mathlib.Decide.{decLt}
-use native.Mathlib.Nat.{eq-or-lt-of-le, le-of-suc-le-suc, le-div-iff-mul-le, mul-le-mul-right, suc-mul}
+use native.Mathlib.Nat.{eq-or-lt-of-le, le-of-suc-le-suc, le-div-iff-mul-le, mul-le-mul-right, suc-mul, div-add-mod'}
 use native.Mathlib.Omega.{arith}
 use mathlib.Core.Path.{_≡_, refl, sym, ap, _∙_}
 use mathlib.Core.Logic.{⊎-elim}
@@ -99,6 +99,10 @@ module _ (fs : Float) (len blocks : ℕ) (f : ElementFit) (s : Span) (e : s ≡ 
       go (no l) =
           let past : b ≤ j = omega arith in
           t .rest j past ∙ sym (after-span j (zAt first j) (omega (arith, mul-le-mul-right len past)))
+
+-- where the block of sample lo starts
+pub first-start : (lo len : ℕ) → lo - lo % len ≡ lo / len * len
+first-start lo len = omega (arith, div-add-mod' lo len)
 
 -- a block that begins before the end of a span is one of the whole blocks
 pub block-inside : (blocks len b from hi : ℕ) → from ≡ b * len → from < hi → hi ≤ blocks * len → (b < blocks) × (from + len ≤ blocks * len)

@@ -92,9 +92,10 @@ fn subtract_fit(
     ensures { λ _. ⌜ ((b : ℕ) → b < blocks → zAt (now (row .exit)) b ≡ lessFit fs len blocks f b (zAt (now (row .entry)) b)) ⌝ }
 {
     let s = fit_span(f, fs, blocks * len);
+    let lo = s.lo;
     let hi = s.hi;
-    let mut b = s.lo / len;
-    let mut from = b * len;
+    let mut b = lo / len;
+    let mut from = lo - lo % len;
     while from < hi {
         let z = complex::get(row, b);
         complex::put(row, b, subtract_covered(z, f, s, fs, from, len, sine));

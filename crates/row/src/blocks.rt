@@ -85,16 +85,6 @@ pub fn mean_from(iq: &[f32], cyc: f64, a: usize, len: usize, sine: &[f64; 1025])
     acc.div_real(float::exact(len))
 }
 
-// Number b of the block means.
-pub fn block_mean(iq: &[f32], cyc: f64, len: usize, b: usize, sine: &[f64; 1025]) -> Complex
-    requires { ⌜ Iq (now iq) ⌝ }
-    requires { ⌜ now sine ≡ quarterSines ⌝ }
-    requires { ⌜ 2 * (b * len + len) ≤ length (now iq) ⌝ }
-    ensures { λ r. ⌜ r ≡ blockMean (now (iq .entry)) cyc len b ⌝ }
-{
-    mean_from(iq, cyc, b * len, len, sine)
-}
-
 // The means of the blocks of len samples, each sample times z.
 fn means_times(iq: &[f32], z: Complex, len: usize, out: &mut [f64]) -> usize
     requires { ⌜ Iq (now iq) ⌝ }
@@ -104,9 +94,11 @@ fn means_times(iq: &[f32], z: Complex, len: usize, out: &mut [f64]) -> usize
         × (now (out .exit) ≡ zFill (now (out .entry)) 0 (λ b. meanTimes (now (iq .entry)) z (b * len) len) (blocks (now (iq .entry)) len)) ⌝ }
 {
     let n = iq.len() / 2 / len;
+    let mut from: usize = 0;
     for b in 0..n {
-        let m = mean_times(iq, z, b * len, len);
+        let m = mean_times(iq, z, from, len);
         complex::put(out, b, m);
+        from = from + len;
     }
     n
 }
@@ -124,9 +116,11 @@ pub fn block_means(iq: &[f32], cyc: f64, len: usize, out: &mut [f64], sine: &[f6
         return means_times(iq, still_turn(), len, out);
     }
     let n = iq.len() / 2 / len;
+    let mut from: usize = 0;
     for b in 0..n {
-        let m = block_mean(iq, cyc, len, b, sine);
+        let m = mean_from(iq, cyc, from, len, sine);
         complex::put(out, b, m);
+        from = from + len;
     }
     n
 }

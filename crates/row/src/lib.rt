@@ -4,7 +4,6 @@ pub mod envelope;
 pub mod samples;
 pub mod window;
 
-pub use blocks::block_mean;
 pub use blocks::block_means;
 pub use blocks::derotated;
 pub use blocks::mean_from;

@@ -1,4 +1,4 @@
--- The invariant: n powers of the first b blocks are stored.
+-- The invariant: n powers of the first b blocks are stored, and `from` is where block b starts.
 use Prim.Native.Nat.{_*_, _≤_, _-_}
 use native.Mathlib.Omega.{arith}
 use mathlib.Core.Path.{_≡_, refl, ap, _∙_}
@@ -8,7 +8,7 @@ use borrow.Author.Needs.{needs}
 use Rattle.lists.specs.Count.{countTo}
 use Rattle.lists.specs.Those.{keep}
 use Rattle.row.specs.Blocks.{blockMean}
-use Rattle.row.proofs.Means.{block-fits}
+use Rattle.row.proofs.Means.{start-within, raised-fits, start-next, block-mean-is}
 use Rattle.classes.specs.declared.class.BlockClass.the-variants.{Gap}
 use Rattle.complex.specs.Value.{cNormSqr}
 use Rattle.prepared.specs.Sections.{CLASSES}
@@ -19,22 +19,28 @@ use Rattle.gaps.proofs.reference.gap_powers.Statement.{statement}
 use Rattle.gaps.proofs.reference.gap_powers.Tie as tie
 
 abbrev Inv-loop : tie.InvT-loop
-Inv-loop iq cyc grid work₀ out sine blocks n₀ b₀ work n b =
+Inv-loop iq cyc work₀ out sine blocks len n₀ from₀ b₀ work n from b =
     (b ≤ blocks) × (n ≤ b) × (length work ≡ length work₀) × (n ≡ countTo (classIn work₀ (CLASSES * blocks) Gap) b)
-    × (work ≡ keep work₀ out (classIn work₀ (CLASSES * blocks) Gap) (blockPower (blockMean iq cyc (grid .window))) b)
+    × (work ≡ keep work₀ out (classIn work₀ (CLASSES * blocks) Gap) (blockPower (blockMean iq cyc len)) b)
+    × (from ≡ b * len)
 
 abbrev μ-loop : tie.MeasureT-loop
-μ-loop iq cyc grid work₀ out sine blocks n₀ b₀ work n b = blocks - b
+μ-loop iq cyc work₀ out sine blocks len n₀ from₀ b₀ work n from b = blocks - b
 
 loop-holds : tie.Need-loop-holds Inv-loop μ-loop
 unfolding countTo keep
-loop-holds c = (search needs, search needs, search needs, refl, refl)
+loop-holds c = (search needs, search needs, search needs, refl, refl, search needs)
 
-block-mean-requires : tie.Need-block-mean-requires Inv-loop μ-loop
-block-mean-requires c κs =
+mean-from-requires : tie.Need-mean-from-requires Inv-loop μ-loop
+mean-from-requires c κs =
     let at = c .before .before .before .before in
     let s = at .before .before .before in
-    (s .pre .0, (s .pre .1 .0, block-fits _ _ _ (omega arith)))
+    (s .pre .0, (s .pre .1 .0, start-within _ _ _ _ (at .loop .inv .5) (omega arith)))
+
+add-from : tie.Need-add-from Inv-loop μ-loop
+add-from c =
+    let at = c .before .before .before .before in
+    raised-fits _ _ _ _ (at .loop .inv .5) (omega arith) (at .before .before .before .pre .0 .short)
 
 loop-again : tie.Need-loop-again Inv-loop μ-loop
 loop-again c =
@@ -42,11 +48,11 @@ loop-again c =
     let inv = class .before .before .before .loop .inv in
     ⊎-elim
     (λ w.
-    let next = kept-yes _ _ _ _ _ _ _ _ _ _ _ _ (inv .4) (inv .3) (class .is-class .ensures) (w .0 .taken) (w .2 .ensures ∙ ap cNormSqr (w .1 .ensures)) (w .3) (w .4) (omega arith) in
-    (search needs, omega (arith, w .4), ap length (w .3) ∙ simp length-set (inv .2), next .0, next .1))
+    let next = kept-yes _ _ _ _ _ _ _ _ _ _ _ _ (inv .4) (inv .3) (class .is-class .ensures) (w .0 .taken) (w .2 .ensures ∙ ap cNormSqr (block-mean-is _ _ _ _ _ _ (inv .5) (w .1 .ensures))) (w .3) (w .4) (omega arith) in
+    (search needs, omega (arith, w .4), ap length (w .3) ∙ simp length-set (inv .2), next .0, next .1, start-next _ _ _ _ (inv .5) refl))
     (λ w.
     let next = kept-no _ _ _ _ _ _ _ _ _ _ _ (inv .4) (inv .3) (class .is-class .ensures) (w .0 .left) (w .1) (w .2) (omega arith) in
-    (search needs, omega (arith, w .2), ap length (w .1) ∙ inv .2, next .0, next .1))
+    (search needs, omega (arith, w .2), ap length (w .1) ∙ inv .2, next .0, next .1, start-next _ _ _ _ (inv .5) refl))
     (c .if1 .came)
 
 returns : tie.Need-returns Inv-loop μ-loop
@@ -64,12 +70,13 @@ gap-powers-spec =
     (λ c. search needs)
     (λ c. search needs)
     (λ c κs. search needs)
-    block-mean-requires
+    mean-from-requires
     (λ c κs. search needs)
     (λ c. search needs)
     (λ c. search needs)
     (λ c. search needs)
     (λ c. search needs)
+    add-from
     (λ c. search needs)
     (λ c. search needs)
     loop-again

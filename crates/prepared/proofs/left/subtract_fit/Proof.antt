@@ -1,26 +1,27 @@
 -- The invariant: the blocks before b are done, `from` is the first sample of block b.
 use Prim.Native.Nat.{_+_, _*_, _-_, _≤_, _<_}
 use native.Mathlib.Omega.{arith}
-use native.Mathlib.Nat.{div-mul-le-self, suc-mul}
-use mathlib.Core.Path.{_≡_}
+use native.Mathlib.Nat.{mod-le}
+use mathlib.Core.Path.{_≡_, refl}
 use lib.ListN.{length}
 use borrow.Author.Needs.{needs}
+use Rattle.row.proofs.Means.{start-next}
 use Rattle.synth.specs.Span.{spanOf}
-use Rattle.synth.proofs.Spans.{span-ordered, span-inside}
-use Rattle.prepared.proofs.Less.{Turned, turned-none, turned-turn, turned-done, block-inside}
+use Rattle.synth.proofs.Spans.{span-inside}
+use Rattle.prepared.proofs.Less.{Turned, turned-none, turned-turn, turned-done, first-start, block-inside}
 use Rattle.prepared.proofs.left.subtract_fit.Statement.{statement}
 use Rattle.prepared.proofs.left.subtract_fit.Tie as tie
 
 abbrev Inv-loop : tie.InvT-loop
-Inv-loop row₀ blocks f fs len sine s hi b₀ from₀ row b from =
+Inv-loop row₀ blocks f fs len sine s lo hi b₀ from₀ row b from =
     (hi ≡ s .hi) × (s .hi ≤ blocks * len) × (s ≡ spanOf fs (blocks * len) f) × (from ≡ b * len) × (length row ≡ length row₀) × Turned fs len blocks f row₀ row b
 
 abbrev μ-loop : tie.MeasureT-loop
-μ-loop row₀ blocks f fs len sine s hi b₀ from₀ row b from = hi - from
+μ-loop row₀ blocks f fs len sine s lo hi b₀ from₀ row b from = hi - from
 
 -- in a turn: block b is there
 inside : (c : tie.In-loop Inv-loop μ-loop)
-    → let args = c .before .before .before .before .before .args in
+    → let args = c .before .before .before .before .args in
     let at = c .before .loop in
     (at .b < args .blocks) × (at .from + args .len ≤ args .blocks * args .len) × (2 * at .b + 1 < length (at .row))
 inside c =
@@ -28,17 +29,13 @@ inside c =
     let here = block-inside _ _ _ _ _ (inv .3) (c .loop-test .taken) (inv .1) in
     (here .0, here .1, omega (arith, here .0))
 
-mul-from : tie.Need-mul-from Inv-loop μ-loop
-mul-from c =
-    let s = c .before .fit-span .result in
-    let low : s .lo ≤ s .hi = rw (c .before .fit-span .ensures) (span-ordered _ _ _) in
-    let high : s .hi ≤ c .before .before .before .args .blocks * c .before .before .before .args .len = rw (c .before .fit-span .ensures) (span-inside _ _ _) in
-    omega (arith, div-mul-le-self (s .lo) (c .before .before .before .args .len))
+sub-from : tie.Need-sub-from Inv-loop μ-loop
+sub-from c = mod-le _ _
 
 loop-holds : tie.Need-loop-holds Inv-loop μ-loop
 loop-holds c =
-    let span = c .before .fit-span .ensures in
-    (search needs, rw span (span-inside _ _ _), span, search needs, search needs, turned-none _ _ _ _ _ span _ (search needs))
+    let span = c .fit-span .ensures in
+    (search needs, rw span (span-inside _ _ _), span, first-start _ _, search needs, turned-none _ _ _ _ _ span _ (search needs))
 
 loop-again : tie.Need-loop-again Inv-loop μ-loop
 loop-again c =
@@ -50,7 +47,7 @@ loop-again c =
       inv .0,
       inv .1,
       inv .2,
-      omega (arith, inv .3, suc-mul (turn .before .loop .b) (turn .before .before .before .before .before .args .len)),
+      start-next _ _ _ _ (inv .3) refl,
       search needs,
       turned-turn _ _ _ _ _ (inv .2) _ _ _ _ _ _ _ (inv .5) (inv .3) (got .get .ensures) (less .subtract-covered .ensures) (c .before .before .put .ensures) (omega arith),
     )
@@ -67,7 +64,8 @@ subtract-fit-spec =
     (λ c. search needs)
     (λ c κs. search needs)
     (λ c. search needs)
-    mul-from
+    (λ c. search needs)
+    sub-from
     loop-holds
     (λ c κs. let here = inside (c .before) in omega arith)
     (λ c κs. let here = inside (c .before .before .before) in search needs)

@@ -1,5 +1,5 @@
--- The invariant: b means are stored.
-use Prim.Native.Nat.{_≤_, _-_}
+-- The invariant: b means are stored, and `from` is where block b starts.
+use Prim.Native.Nat.{_≤_, _-_, _*_}
 use mathlib.Core.Path.{_≡_, _∙_}
 use lib.ListN.{length}
 use Rattle.complex.specs.Rows.{zFill}
@@ -10,10 +10,11 @@ use Rattle.row.proofs.blocks.block_means.Statement.{statement}
 use Rattle.row.proofs.blocks.block_means.Tie as tie
 
 abbrev Inv-loop : tie.InvT-loop
-Inv-loop iq cyc len out₀ sine n b₀ out b = (b ≤ n) × (length out ≡ length out₀) × (out ≡ zFill out₀ 0 (blockMean iq cyc len) b)
+Inv-loop iq cyc len out₀ sine n from₀ b₀ out from b =
+    (b ≤ n) × (from ≡ b * len) × (length out ≡ length out₀) × (out ≡ zFill out₀ 0 (blockMean iq cyc len) b)
 
 abbrev μ-loop : tie.MeasureT-loop
-μ-loop iq cyc len out₀ sine n b₀ out b = n - b
+μ-loop iq cyc len out₀ sine n from₀ b₀ out from b = n - b
 
 returns : tie.Need-returns Inv-loop μ-loop
 returns c =
@@ -38,6 +39,7 @@ block-means-spec =
     (λ c. search laws)
     (λ c κs. search laws)
     (λ c κs. search laws)
+    (λ c. search laws)
     (λ c. search laws)
     (λ c. search laws)
     (λ c. search laws)
