@@ -104,6 +104,7 @@ fn means_times(iq: &[f32], z: Complex, len: usize, out: &mut [f64]) -> usize
 }
 
 // Rust: block_means. The means go into a lent slice, as complex numbers from its start on; the answer is their number.
+// Where a block starts is added up: no turn multiplies for it.
 pub fn block_means(iq: &[f32], cyc: f64, len: usize, out: &mut [f64], sine: &[f64; 1025]) -> usize
     requires { ⌜ Iq (now iq) ⌝ }
     requires { ⌜ now sine ≡ quarterSines ⌝ }

@@ -31,7 +31,7 @@ mul-from c = start-fits _ _ (length (c .before .before .before .before .before .
 
 loop-holds : tie.Need-loop-holds Inv-loop μ-loop
 loop-holds c =
-    (search needs, search needs, (λ h. rw (c .least2 .ensures, min-eq-left h)), search needs, label-none _ _ _ _)
+    (search needs, search needs, (λ h. rw (c .least2 .ensures ∙ min-eq-left h)), search needs, label-none _ _ _ _)
 
 exact-requires : tie.Need-exact-requires Inv-loop μ-loop
 exact-requires c κs = start-exact _ _ (length (c .before .loop .class)) _ (search needs) (search needs) (search needs) (c .before .loop .inv .2 (search needs))

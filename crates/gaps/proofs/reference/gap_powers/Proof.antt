@@ -37,11 +37,6 @@ mean-from-requires c κs =
     let s = at .before .before .before in
     (s .pre .0, (s .pre .1 .0, start-within _ _ _ _ (at .loop .inv .5) (omega arith)))
 
-add-from : tie.Need-add-from Inv-loop μ-loop
-add-from c =
-    let at = c .before .before .before .before in
-    raised-fits _ _ _ _ (at .loop .inv .5) (omega arith) (at .before .before .before .pre .0 .short)
-
 loop-again : tie.Need-loop-again Inv-loop μ-loop
 loop-again c =
     let class = c .before in
@@ -54,6 +49,11 @@ loop-again c =
     let next = kept-no _ _ _ _ _ _ _ _ _ _ _ (inv .4) (inv .3) (class .is-class .ensures) (w .0 .left) (w .1) (w .2) (omega arith) in
     (search needs, omega (arith, w .2), ap length (w .1) ∙ inv .2, next .0, next .1, start-next _ _ _ _ (inv .5) refl))
     (c .if1 .came)
+
+add-from : tie.Need-add-from Inv-loop μ-loop
+add-from c =
+    let at = c .before .before .before .before in
+    raised-fits _ _ _ _ (at .loop .inv .5) (omega arith) (at .before .before .before .pre .0 .short)
 
 returns : tie.Need-returns Inv-loop μ-loop
 returns c =

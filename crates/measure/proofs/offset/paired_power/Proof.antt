@@ -38,11 +38,6 @@ mean-from-requires c κs =
     let s = at .before .before .before in
     (s .pre .0, (s .pre .1 .0, start-within _ _ _ _ (at .loop .inv .2) (omega arith)))
 
-add-from : tie.Need-add-from Inv-loop μ-loop
-add-from c =
-    let at = c .before .before .before in
-    raised-fits _ _ _ _ (at .loop .inv .2) (omega arith) (at .before .before .before .pre .0 .short)
-
 loop-again : tie.Need-loop-again Inv-loop μ-loop
 loop-again c =
     let asked = c .before in
@@ -52,6 +47,11 @@ loop-again c =
           (λ w. over-no _ _ _ _ _ _ (inv .1) (asked .in-pair .ensures) (w .0 .left) (w .1)) (c .if1 .came),
       start-next _ _ _ _ (inv .2) refl,
     )
+
+add-from : tie.Need-add-from Inv-loop μ-loop
+add-from c =
+    let at = c .before .before .before in
+    raised-fits _ _ _ _ (at .loop .inv .2) (omega arith) (at .before .before .before .pre .0 .short)
 
 returns : tie.Need-returns Inv-loop μ-loop
 returns c = over-done _ _ _ _ _ (c .before .loop .inv .1) (omega arith) (omega arith)

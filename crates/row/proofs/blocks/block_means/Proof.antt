@@ -1,9 +1,10 @@
 -- The invariant: b means are stored, and `from` is where block b starts.
 use Prim.Native.Nat.{_≤_, _-_, _*_}
-use mathlib.Core.Path.{_≡_, _∙_}
+use mathlib.Core.Path.{_≡_, refl, _∙_}
 use lib.ListN.{length}
 use Rattle.complex.specs.Rows.{zFill}
 use Rattle.row.specs.Blocks.{blockMean}
+use Rattle.row.proofs.Means.{start-next}
 use Rattle.row.proofs.Unturned.{means-still}
 use Rattle.row.proofs.Laws.{laws}
 use Rattle.row.proofs.blocks.block_means.Statement.{statement}
@@ -15,6 +16,11 @@ Inv-loop iq cyc len out₀ sine n from₀ b₀ out from b =
 
 abbrev μ-loop : tie.MeasureT-loop
 μ-loop iq cyc len out₀ sine n from₀ b₀ out from b = n - b
+
+loop-again : tie.Need-loop-again Inv-loop μ-loop
+loop-again c =
+    let inv = c .before .before .before .before .before .before .loop .inv in
+    (search laws, start-next _ _ _ _ (inv .1) refl, search laws, search laws)
 
 returns : tie.Need-returns Inv-loop μ-loop
 returns c =
@@ -42,6 +48,6 @@ block-means-spec =
     (λ c. search laws)
     (λ c. search laws)
     (λ c. search laws)
-    (λ c. search laws)
+    loop-again
     (λ c. search laws)
     (λ c. search laws))
