@@ -24,17 +24,18 @@ blocks-few fs n m h e =
     let wide : 8 ≤ windowOf fs = omega (arith, step-low fs) in
     omega (arith, div-mul-le-self n (windowOf fs), mul-le-mul-left (n / windowOf fs) wide)
 
--- where a block starts, as a number of samples
-pub start-small : (b len m from : ℕ) → b ≤ m → m ≤ 131072 → len ≤ 512 → from ≡ b * len → from ≤ 67108864
+-- a block starts at sample 2^26 at most
+start-small : (b len m from : ℕ) → b ≤ m → m ≤ 131072 → len ≤ 512 → from ≡ b * len → from ≤ 67108864
 start-small b len m from h g s e = let few : b ≤ 131072 = omega arith in omega (arith, mul-le-mul few s)
 
--- the first start of a loop, and each raised by the length
+-- the first start of a loop, and a start raised by the length, fit in 64 bits
 pub start-fits : (b len m : ℕ) → b ≤ m → m ≤ 131072 → len ≤ 512 → Fits w64 (b * len)
 start-fits b len m h g s = record { fits = let small = start-small b len m (b * len) h g s refl in omega arith }
 
 pub next-fits : (b len m from : ℕ) → b ≤ m → m ≤ 131072 → len ≤ 512 → from ≡ b * len → Fits w64 (from + len)
 next-fits b len m from h g s e = record { fits = let small = start-small b len m from h g s e in omega arith }
 
+-- and a start is a float exactly
 pub start-exact : (b len m from : ℕ) → b ≤ m → m ≤ 131072 → len ≤ 512 → from ≡ b * len → from ≤ 9007199254740992
 start-exact b len m from h g s e = let small = start-small b len m from h g s e in omega arith
 

@@ -77,8 +77,8 @@ fn label_range(len: usize, lo: f64, hi: f64, x: f64, class: &mut [f64])
     }
 }
 
-// Rust: the loop over the blocks of an interior. Where a block starts is added up, from one product before the loop; the
-// first block can lie past the end and be as large as a number gets, so it is cut for that product.
+// Rust: the loop over the blocks of an interior. Where a block starts is added up, from one product before the loop.
+// The first block can lie past the end, with a number up to 2^64 − 1: for that product it is cut to the end.
 fn label_amid(len: usize, lo: f64, hi: f64, x: f64, class: &mut [f64])
     requires { ⌜ len ≤ 512 ⌝ }
     requires { ⌜ length (now class) ≤ 131072 ⌝ }

@@ -38,7 +38,7 @@ fn or_zero(p: Percentile) -> f64
 }
 
 // The powers of the gap blocks at cyc cycles a sample go to `out` and the numbers after it; the answer is how many they
-// are. Rust: the loop over gap_idx that fills `side`.
+// are. Rust: the loop over gap_idx that fills `side`. The start is raised for the blocks that are passed over too.
 fn gap_powers(
     iq: &[f32],
     cyc: f64,

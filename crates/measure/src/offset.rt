@@ -38,7 +38,7 @@ pub struct Candidate {
     pub power: f64,
 }
 
-// The sum of the powers, at cyc cycles a sample, of the blocks in pairs.
+// The sum of the powers, at cyc cycles a sample, of the blocks in pairs. The start is raised for the others too.
 fn paired_power(
     iq: &[f32],
     cyc: f64,

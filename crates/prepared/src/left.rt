@@ -76,8 +76,8 @@ fn subtract_covered(
     }
 }
 
-// The means of a row less one fit. Rust: the body of the loop over the fits. The first block is that of the span's first
-// sample.
+// The means of a row less one fit. Rust: the body of the loop over the fits. The first block is the one that holds the
+// span's first sample.
 fn subtract_fit(
     row: &mut [f64],
     blocks: usize,

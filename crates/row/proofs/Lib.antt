@@ -5,7 +5,8 @@
 -- Steps       a rate that question 1 takes: `rate-is`, `rate-pos`; the step is 1 to 64 and grows with the rate:
 --             `step-low`, `step-high`, `step-mono`; `.max(1.0) as usize`: `max-low`, `max-high`, `max-mono`
 -- Means       blocks lie within the recording: `blocks-short`, `block-fits`; in a loop over blocks, their starts added
---             up: `start-next`, `block-mean-is`; the end of a loop that sums one: `mean-done`, `mean-times-done`
+--             up: `start-within`, `raised-fits`, `start-next`, `block-mean-is`; the end of a loop that sums one:
+--             `mean-done`, `mean-times-done`
 -- Running     the running sum, turn by turn: `run-none`, `run-turn`, `amplitude-is`, `row-done`; number i is of the
 --             first 8 + i numbers alone: `run-cong`
 -- Rows        the row in the work slice is that of the block means before it: `row-stored`, `row-part`, `row-is`; how

@@ -1,4 +1,4 @@
--- The invariant: the blocks before b are done, `from` is the first sample of block b.
+-- The invariant: the blocks before b are done, and `from` is where block b starts.
 use Prim.Native.Nat.{_+_, _*_, _-_, _≤_, _<_}
 use native.Mathlib.Omega.{arith}
 use native.Mathlib.Nat.{mod-le}
