@@ -6,7 +6,7 @@ ghost use Rattle.cancel.specs.Running.{run_outcome, run_rule};
 use engine::RunFigures;
 use questions::estimate_no;
 
-#[derive(Drop)]
+#[derive(Clone, Copy)]
 pub enum RunAnswer {
     Refused(u64),
     Done(RunFigures),

@@ -5,7 +5,7 @@ ghost use Rattle.std.specs.Float.Ieee.{eq};
 ghost use Rattle.classes.specs.Class.{code_of};
 
 // Rust: BlockClass.
-#[derive(Drop)]
+#[derive(Clone, Copy)]
 pub enum BlockClass {
     Edge,
     Interior,

@@ -15,7 +15,7 @@ use elements::{KeyedElement, element_at};
 use fits::fit_at;
 
 // How many blocks have each class.
-#[derive(Drop)]
+#[derive(Clone, Copy)]
 pub struct ClassCounts {
     pub edge: usize,
     pub interior: usize,

@@ -4,7 +4,7 @@ ghost use Rattle.std.specs.Prelude.{◌≡◌};
 ghost use Rattle.trig.specs.Circle.{quarter_sines};
 ghost use Rattle.complex.specs.Value.{c_new, c_add, c_sub, c_mul, c_conj, c_norm_sqr, c_norm, c_arg, c_div, c_polar};
 
-#[derive(Drop)]
+#[derive(Clone, Copy)]
 pub struct Complex {
     pub re: f64,
     pub im: f64,

@@ -1,4 +1,5 @@
 // The constants at the head of cancel.rs, each with what it is for.
+#![tactic(auto)]
 
 // The window of the edge finder, which is also the block of the residual check and of the evidence, in seconds: 256
 // samples at 96,000 a second.

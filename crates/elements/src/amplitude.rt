@@ -14,7 +14,7 @@ use crate::threshold::{Threshold, row_threshold};
 use row::{amplitudes, edge_step};
 
 // How many amplitudes the row has, and its threshold.
-#[derive(Drop)]
+#[derive(Clone, Copy)]
 pub struct AmplitudeRow {
     pub amplitudes: usize,
     pub threshold: Threshold,

@@ -7,7 +7,7 @@ ghost use Rattle.elements.specs.Inner.{put_element_from, put_element};
 pub const ELEMENT: usize = 4;
 
 // The sample times of the two crossings, and their positions in the row, which the Rust does not keep.
-#[derive(Drop)]
+#[derive(Clone, Copy)]
 pub struct KeyedElement {
     pub start: f64,
     pub end: f64,

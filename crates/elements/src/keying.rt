@@ -11,14 +11,14 @@ use float::whole::exact;
 use row::centre;
 
 // The position of the upward crossing that no downward one has followed yet. The Rust keeps its time.
-#[derive(Drop)]
+#[derive(Clone, Copy)]
 pub enum Rising {
     At(usize),
     Nothing,
 }
 
 // How many key-downs a row has, how many of them are listed and short, and the airtime of the listed ones in samples.
-#[derive(Drop)]
+#[derive(Clone, Copy)]
 pub struct Found {
     pub key_downs: usize,
     pub listed: usize,

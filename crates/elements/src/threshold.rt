@@ -7,7 +7,7 @@ use rank::Percentile;
 use rank::select::percentile;
 
 // Absent where the row has no percentile, or half of it is not positive: there the Rust answers an empty list.
-#[derive(Drop)]
+#[derive(Clone, Copy)]
 pub enum Threshold {
     At(f64),
     Absent,

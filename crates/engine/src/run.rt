@@ -18,7 +18,7 @@ use measure::{Hypothesis, ResidualCheck, SecondCarrierEvidence, classify, measur
 use synth::subtract;
 
 // Every figure of a run, and whether the strong sender was taken off.
-#[derive(Drop)]
+#[derive(Clone, Copy)]
 pub struct RunFigures {
     pub samples: usize,
     pub window: usize,

@@ -6,7 +6,7 @@ use crate::places::CLASSIFY_FIGURES;
 use measure::{Hypothesis, Offset};
 
 // A case of the hypothesis as numbers.
-#[derive(Drop)]
+#[derive(Clone, Copy)]
 pub struct HypothesisCase {
     pub number: f64,
     pub offset_hz: f64,

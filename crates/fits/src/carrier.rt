@@ -19,7 +19,7 @@ fn fit_weight(f: ElementFit, fs: f64) -> f64
 }
 
 // The sums of the weighted slopes and of the weights.
-#[derive(Drop)]
+#[derive(Clone, Copy)]
 pub struct Slopes {
     pub num: f64,
     pub den: f64,

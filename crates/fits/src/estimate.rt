@@ -14,7 +14,7 @@ use crate::list::fit_elements;
 use elements::{Found, find_elements};
 
 // What one find and fit counts.
-#[derive(Drop)]
+#[derive(Clone, Copy)]
 pub struct Pass {
     pub found: Found,
     pub fitted: usize,
@@ -49,7 +49,7 @@ fn find_and_fit(
 }
 
 // Rust: StrongEstimate, whose elements and fits are in lent lists here, with their counts.
-#[derive(Drop)]
+#[derive(Clone, Copy)]
 pub struct Estimate {
     pub carrier_hz: f64,
     pub carrier_step_hz: f64,

@@ -14,7 +14,7 @@ use interiors::kept::{derotate, room_for};
 use interiors::slope::phase_slope;
 
 // Rust: ElementFit.
-#[derive(Drop)]
+#[derive(Clone, Copy)]
 pub struct ElementFit {
     pub element: KeyedElement,
     pub gain: Complex,
@@ -23,7 +23,7 @@ pub struct ElementFit {
 }
 
 // What `fit_elements` has for an element: its fit, or nothing where it is skipped.
-#[derive(Drop)]
+#[derive(Clone, Copy)]
 pub enum Fit {
     Fitted(ElementFit),
     Skipped,

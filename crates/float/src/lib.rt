@@ -1,4 +1,6 @@
 // Rust's functions of f64, total, against the logic's account of IEEE 754.
+#![tactic(auto)]
+
 pub mod compare;
 pub mod remainder;
 pub mod single;

@@ -4,7 +4,7 @@ ghost use Rattle.format.specs.Input.{Made, reading_of, count_of};
 
 // One read: how many bytes were there before it, how many it asked for, and what it answered. Its fields are open to
 // this file alone, so that every `Read` is one that `read_on` made.
-#[derive(Drop)]
+#[derive(Clone, Copy)]
 pub struct Read {
     there: usize,
     asked: usize,
@@ -14,7 +14,7 @@ pub struct Read {
 // What came of an input: how many bytes it counts as having, and of the read that ended it how many bytes were there
 // before it and how many it asked for. Its fields are open to this file alone too, so that no program hands on a count
 // of its own.
-#[derive(Drop)]
+#[derive(Clone, Copy)]
 pub struct Came {
     count: usize,
     there: usize,
@@ -36,7 +36,7 @@ impl Came {
 }
 
 // What a read means for the whole input.
-#[derive(Drop)]
+#[derive(Clone, Copy)]
 pub enum Reading {
     Failed,
     Ended,

@@ -15,14 +15,14 @@ use constants::{HOT_FACTOR, PAIR_FACTOR};
 use prepared::sections::CLASSES;
 
 // How many gap blocks there are, and how many of them are hot.
-#[derive(Drop)]
+#[derive(Clone, Copy)]
 pub struct Gaps {
     pub blocks: usize,
     pub hot: usize,
 }
 
 // How many pairs there are, the sum of their products, and the sum of the products' sizes.
-#[derive(Drop)]
+#[derive(Clone, Copy)]
 pub struct Pairs {
     pub count: usize,
     pub sum: Complex,

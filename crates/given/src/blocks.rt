@@ -8,13 +8,13 @@ use questions::refusals::{REFUSED_COUNT, REFUSED_GIVEN, REFUSED_PLACES, REFUSED_
 use questions::{class_places_ok, count_ok, estimate_ok, window_blocks};
 
 // How many blocks of `window` samples there are, and how many have each class.
-#[derive(Drop)]
+#[derive(Clone, Copy)]
 pub struct BlockClasses {
     pub blocks: usize,
     pub counts: ClassCounts,
 }
 
-#[derive(Drop)]
+#[derive(Clone, Copy)]
 pub enum ClassesAnswer {
     Refused(u64),
     Done(BlockClasses),

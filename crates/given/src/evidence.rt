@@ -6,7 +6,7 @@ ghost use Rattle.given.specs.Evidence.{evidence_outcome, evidence_rule};
 use measure::SecondCarrierEvidence;
 use questions::measure_no;
 
-#[derive(Drop)]
+#[derive(Clone, Copy)]
 pub enum EvidenceAnswer {
     Refused(u64),
     Done(SecondCarrierEvidence),

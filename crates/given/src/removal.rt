@@ -6,7 +6,7 @@ ghost use Rattle.given.specs.Removal.{subtract_questions, subtract_outcome, subt
 use questions::refusals::REFUSED_GIVEN;
 use questions::{estimate_ok, recording_no};
 
-#[derive(Drop)]
+#[derive(Clone, Copy)]
 pub enum SubtractAnswer {
     Refused(u64),
     Done,

@@ -6,7 +6,7 @@ ghost use Rattle.given.specs.Residual.{residual_outcome, residual_rule};
 use measure::ResidualCheck;
 use questions::measure_no;
 
-#[derive(Drop)]
+#[derive(Clone, Copy)]
 pub enum ResidualAnswer {
     Refused(u64),
     Done(ResidualCheck),

@@ -44,7 +44,7 @@ fn leveled_at(
 }
 
 // The sums of the terms and of their weights.
-#[derive(Drop)]
+#[derive(Clone, Copy)]
 pub struct Weighed {
     pub sum: Complex,
     pub weight: f64,

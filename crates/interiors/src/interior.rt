@@ -7,7 +7,7 @@ use constants::{MIN_INTERIOR_S, RISE_S, SLOPE_BLOCK_S};
 
 // From the first sample up to, not including, `past`; or nothing, where the element is too short or leaves the
 // recording.
-#[derive(Drop)]
+#[derive(Clone, Copy)]
 pub enum Interior {
     Inside { first: usize, past: usize },
     Nothing,

@@ -10,7 +10,7 @@ ghost use Rattle.interiors.specs.Inner.{Derotated};
 use complex::Complex;
 
 // `count` samples, the first at complex number `at` of the slice.
-#[derive(Drop)]
+#[derive(Clone, Copy)]
 pub struct Kept {
     pub at: usize,
     pub count: usize,

@@ -16,7 +16,7 @@ pub fn time_of(i0: usize, block: usize, b: usize) -> f64
 }
 
 // The sums of the weights, of the weighted times and of the weighted phases.
-#[derive(Drop)]
+#[derive(Clone, Copy)]
 pub struct Sums {
     pub weight: f64,
     pub time: f64,
@@ -48,7 +48,7 @@ fn sum_points(work: &[f64], i0: usize, block: usize, n: usize) -> Sums
 }
 
 // Σ w (t − tm) (p − pm) and Σ w (t − tm) (t − tm).
-#[derive(Drop)]
+#[derive(Clone, Copy)]
 pub struct Moments {
     pub num: f64,
     pub den: f64,

@@ -1,4 +1,6 @@
 // The logarithm to base 10: of m by the series of the inverse hyperbolic tangent, and of 2^e by e.
+#![tactic(auto)]
+
 ghost use Rattle.std.specs.Prelude.{◌≡◌};
 ghost use Rattle.float.specs.Ops.{of, ◌⊖◌};
 ghost use Rattle.logarithm.specs.Logarithm.{series, log_of, log10_of};

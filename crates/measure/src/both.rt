@@ -14,7 +14,7 @@ use prepared::prepare::prepare;
 use prepared::sections::{CLASSES, SIDES};
 
 // The blocks, how many have each class, and both measures.
-#[derive(Drop)]
+#[derive(Clone, Copy)]
 pub struct Measures {
     pub blocks: usize,
     pub classes: ClassCounts,

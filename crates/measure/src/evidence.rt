@@ -26,7 +26,7 @@ use gaps::reference::find_reference;
 use prepared::prepare::{Grid, prepare};
 
 // Rust: SecondCarrierEvidence.
-#[derive(Drop)]
+#[derive(Clone, Copy)]
 pub struct SecondCarrierEvidence {
     pub gap_blocks: usize,
     pub hot_fraction: f64,

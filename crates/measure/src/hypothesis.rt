@@ -7,7 +7,7 @@ use crate::offset::Offset;
 use constants::{MAX_OFFSET_HZ, MIN_COHERENCE, MIN_OFFSET_HZ, NON_CW_MIN_HOT, ONE_SIGNAL_MAX_HOT};
 
 // Rust: Hypothesis.
-#[derive(Drop)]
+#[derive(Clone, Copy)]
 pub enum Hypothesis {
     OneSignal,
     TwoSignalCw { offset_hz: f64 },

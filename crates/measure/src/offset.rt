@@ -24,14 +24,14 @@ use row::mean_from;
 use trig::TAU;
 
 // Rust: an Option<f64>.
-#[derive(Drop)]
+#[derive(Clone, Copy)]
 pub enum Offset {
     Hz(f64),
     Absent,
 }
 
 // An offset with the power that the blocks in pairs have there.
-#[derive(Drop)]
+#[derive(Clone, Copy)]
 pub struct Candidate {
     pub hz: f64,
     pub power: f64,

@@ -27,7 +27,7 @@ use prepared::sections::{CLASSES, POWERS, ZLEFT};
 use rank::Percentile;
 
 // Rust: ResidualCheck.
-#[derive(Drop)]
+#[derive(Clone, Copy)]
 pub struct ResidualCheck {
     pub edge_over_neighbour_db: f64,
     pub interior_over_neighbour_db: f64,

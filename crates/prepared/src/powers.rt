@@ -38,7 +38,7 @@ pub fn gather(
 }
 
 // A percentile of a class's powers, and how many they are.
-#[derive(Drop)]
+#[derive(Clone, Copy)]
 pub struct Level {
     pub value: Percentile,
     pub count: usize,

@@ -17,7 +17,7 @@ use classes::classify_blocks;
 
 // The blocks that a measure looks at: the rate, the carrier of the estimate, how many samples a block has, and how many
 // blocks there are. Rust: fs, est.carrier_hz, len and z.len() in both measures.
-#[derive(Drop)]
+#[derive(Clone, Copy)]
 pub struct Grid {
     pub fs: f64,
     pub carrier: f64,

@@ -2,7 +2,7 @@
 pub mod select;
 
 // `percentile`'s answer: the value, or none for an empty list.
-#[derive(Drop)]
+#[derive(Clone, Copy)]
 pub enum Percentile {
     Value(f64),
     Nothing,

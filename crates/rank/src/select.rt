@@ -23,7 +23,7 @@ ghost use Rattle.rank.specs.Inner.{
 use crate::Percentile;
 
 // A digit of the ordinal at a rank, the rank among the values with this digit, and how many they are.
-#[derive(Drop)]
+#[derive(Clone, Copy)]
 struct Place {
     digit: u64,
     left: u64,
@@ -31,14 +31,14 @@ struct Place {
 }
 
 // The ordinals that begin with a prefix, before their last `shift` bits.
-#[derive(Drop)]
+#[derive(Clone, Copy)]
 struct Cell {
     shift: u64,
     prefix: u64,
 }
 
 // The least and the greatest of some ordinals.
-#[derive(Drop)]
+#[derive(Clone, Copy)]
 struct Bounds {
     least: u64,
     greatest: u64,

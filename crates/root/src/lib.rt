@@ -1,5 +1,7 @@
 // The square root of an f64, rounded to nearest: the whole-number root of the scaled significand,
 // 27 digits by a guess that is checked, or one by one where it misses, 26 by one division, and then the rounding.
+#![tactic(auto)]
+
 ghost use Rattle.std.specs.Prelude.{◌≡◌, not, ◌+◌, ◌*◌, ◌^◌, ◌<◌, ◌≤◌, T};
 ghost use Rattle.std.specs.Float.{binary64};
 ghost use Rattle.std.specs.Float.Ieee.{of_bits, nan_bits};
@@ -12,14 +14,14 @@ use float::TWO_52;
 const TWO_53: f64 = 9007199254740992.0;
 
 // The whole part of a root, and the rest: what its square leaves of the number.
-#[derive(Drop)]
+#[derive(Clone, Copy)]
 struct WholeRoot {
     pub root: u64,
     pub rest: u64,
 }
 
 // digits * 2^exponent
-#[derive(Drop)]
+#[derive(Clone, Copy)]
 struct Significand {
     pub digits: u64,
     pub exponent: u64,

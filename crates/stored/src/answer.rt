@@ -8,14 +8,14 @@ use crate::tally;
 use crate::tally::{PLACES, add, group_of, only_if};
 
 // What came of a case: whether it is equal, and 0 or the refusal's number.
-#[derive(Drop)]
+#[derive(Clone, Copy)]
 pub struct Answered {
     pub equal: bool,
     pub no: u64,
 }
 
 // The same of a run: its hypothesis and whether it said taken, where it is accepted; the samples that it changed.
-#[derive(Drop)]
+#[derive(Clone, Copy)]
 pub struct Ran {
     pub equal: bool,
     pub no: u64,

@@ -1,7 +1,7 @@
 // What a stored case asks of a call, and what it then has to find.
 use crate::units::{count, double, long};
 
-#[derive(Drop)]
+#[derive(Clone, Copy)]
 pub struct Asked {
     pub fs: f64,
     // The hint, or the carrier of a find or fit.

@@ -8,7 +8,7 @@ use elements::AmplitudeRow;
 use questions::refusals::{REFUSED_CARRIER, REFUSED_PLACES, REFUSED_WORK};
 use questions::{carrier_ok, recording_no, row_places_ok, work_ok};
 
-#[derive(Drop)]
+#[derive(Clone, Copy)]
 pub enum RowAnswer {
     Refused(u64),
     Done(AmplitudeRow),

@@ -6,7 +6,7 @@ ghost use Rattle.strong.specs.Estimate.{estimate_outcome, estimate_rule};
 use fits::Estimate;
 use questions::estimate_no;
 
-#[derive(Drop)]
+#[derive(Clone, Copy)]
 pub enum EstimateAnswer {
     Refused(u64),
     Done(Estimate),

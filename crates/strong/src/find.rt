@@ -8,7 +8,7 @@ use elements::{ELEMENT, Found};
 use questions::refusals::{REFUSED_CARRIER, REFUSED_PLACES, REFUSED_WORK};
 use questions::{carrier_ok, find_places_ok, recording_no, work_ok};
 
-#[derive(Drop)]
+#[derive(Clone, Copy)]
 pub enum FindAnswer {
     Refused(u64),
     Done(Found),

@@ -7,7 +7,7 @@ use fits::FIT;
 use questions::refusals::{REFUSED_CARRIER, REFUSED_GIVEN, REFUSED_PLACES, REFUSED_WORK};
 use questions::{carrier_ok, elements_ok, given_places_ok, recording_no, work_ok};
 
-#[derive(Drop)]
+#[derive(Clone, Copy)]
 pub enum FitAnswer {
     Refused(u64),
     Done(usize),

@@ -6,7 +6,7 @@ use constants::RISE_S;
 use fits::ElementFit;
 
 // The samples from lo up to, not including, hi.
-#[derive(Drop)]
+#[derive(Clone, Copy)]
 pub struct Span {
     pub lo: usize,
     pub hi: usize,

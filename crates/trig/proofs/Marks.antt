@@ -261,13 +261,13 @@ signed_zero : to_signed 63 (round binary64 true 0 1) ≡ pos 0
 unfolding to_signed round
 signed_zero = refl
 
-pub in_float : (n : ℕ) → n ≤ 2 ^ 53 → T (in_float binary64 (pos n))
+pub in_float_lem : (n : ℕ) → n ≤ 2 ^ 53 → T (in_float binary64 (pos n))
 unfolding in_float
-in_float n h = le→leb n (2 ^ 53) h
+in_float_lem n h = le→leb n (2 ^ 53) h
 
 signed_pos : (n : ℕ) → n ≤ 8192 → to_signed 63 (round binary64 false n 1) ≡ pos n
 unfolding of_int
-signed_pos n h = (positive_back binary64 63 n (in_float n (omega arith)) (omega arith)).1
+signed_pos n h = (positive_back binary64 63 n (in_float_lem n (omega arith)) (omega arith)).1
 
 in_float_minus : (k : ℕ) → k < 8192 → T (in_float binary64 (negsuc k))
 unfolding in_float

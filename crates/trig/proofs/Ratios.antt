@@ -12,7 +12,7 @@ use Rattle.float.specs.Ops.{of, ◌⊗◌, ◌⊘◌}
 use Rattle.float.specs.Compare.{abs_of}
 use Rattle.float.specs.Whole.{half_up, round_of, whole_by}
 use Rattle.float.proofs.Compared.{le→value}
-use Rattle.trig.proofs.Marks.{in_float}
+use Rattle.trig.proofs.Marks.{in_float_lem}
 use Rattle.trig.specs.Argument.{ratio_of, nearest_step}
 use Rattle.float.proofs.Counts.{whole_value}
 use Rattle.float.proofs.Sums.{mul_over}
@@ -92,7 +92,7 @@ times t (inr h) =
 
 whole_back : (n : ℕ) → n ≤ 64 → to_unsigned 64 (round binary64 false n 1) ≡ n
 unfolding of_int
-whole_back n h = (unsigned_back binary64 64 n (in_float n (omega arith)) (omega arith)).1
+whole_back n h = (unsigned_back binary64 64 n (in_float_lem n (omega arith)) (omega arith)).1
 
 half_up_lem : (a c : ℕ) → 0 < c → a ≤ 64 * c → half_up a c ≤ 64
 half_up_lem a c C h = le_of_suc-le-suc ((div-lt_iff_lt-mul (omega arith)).1 (omega arith))

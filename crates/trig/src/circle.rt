@@ -43,7 +43,7 @@ fn marked(y: f64) -> f64
 }
 
 // An angle: its nearest place among the 4,096 of a turn, and what is left of it.
-#[derive(Drop)]
+#[derive(Clone, Copy)]
 struct Turn {
     at: usize,
     rest: f64,
@@ -111,7 +111,7 @@ fn sine_at(sine: &[f64; 1025], k: usize, p: usize) -> f64
 }
 
 // The sine and the cosine of one angle.
-#[derive(Drop)]
+#[derive(Clone, Copy)]
 pub struct SinCos {
     pub sin: f64,
     pub cos: f64,

@@ -1,5 +1,7 @@
 // The functions of document 01 that stand in for libm's: sin, cos and the argument of a complex number; log10 is in
 // crate logarithm.
+#![tactic(auto)]
+
 pub mod argument;
 pub mod choice;
 pub mod circle;

@@ -1,16 +1,14 @@
--- `root::split_bits` meets its contract. Assumes nothing.
+-- `root::split_bits` meets its contract.
 use Prim.Native.Nat.{ℕ, suc, ◌+◌, ◌-◌, ◌*◌, ◌/◌, ◌%◌, ◌^◌, ◌≤◌, ◌<◌}
 use mathlib.Core.Path.{◌≡◌, sym, ap, ◌∙◌, subst}
 use mathlib.Core.Bool.{Bool, cond}
 use native.Mathlib.Nat.{lt_of_not-le, lt_irrefl, le_trans, mul_assoc, mul-le-mul_right}
 use native.Mathlib.Omega.{arith}
-use borrow.Author.Rules.{rules}
 use borrow.Author.Tests.{lt-ltb, le-ltb}
 use lib.Pow.{pow-add, pow_mono, shl_lt, shl_exact}
 use lib.Count.{count_leading_zeros, leading_le, leading_top}
 use Rattle.float.specs.Inner.{Scaled, counted}
-use Rattle.root.proofs.split_bits.Statement.{statement}
-use Rattle.root.proofs.split_bits.Tie as tie
+use Rattle.root.proofs.split_bits.Goals as goal
 
 -- the place of the leading digit of a number of 52 bits: the zeros before it, and what it bounds
 top : (b : ℕ) → 0 < b → b < 2 ^ 52 → (j : ℕ) × (count_leading_zeros 64 b + suc j ≡ 64) × (2 ^ j ≤ b) × (b < 2 ^ suc j) × (j < 52)
@@ -63,23 +61,20 @@ normal b h k =
       ceil = omega arith;
     }
 
-cast-z : tie.Need-overflow-cast-z
-cast-z c = omega (arith, leading_le 64 c.before.args.b)
+pub overflow_cast-z : goal.overflow_cast-z
+overflow_cast-z c = omega (arith, leading_le 64 c.args.b)
 
-sub-z : tie.Need-overflow-sub-z
-sub-z c = omega (arith, (zeros c.before.args.b c.before.requires.0 c.if1.true).0)
+pub overflow_sub-z : goal.overflow_sub-z
+overflow_sub-z c = omega (arith, (zeros c.args.b c.requires.b_nonzero c.if-b-lt4503599627370496.true).0)
 
-shl-t5 : tie.Need-overflow-shl-t5
-shl-t5 c = omega (arith, leading_le 64 c.before.args.b)
+pub overflow_shl-result : goal.overflow_shl-result
+overflow_shl-result c = omega (arith, leading_le 64 c.args.b)
 
-sub-t6 : tie.Need-overflow-sub-t6
-sub-t6 c = omega (arith, leading_le 64 c.before.args.b)
+pub overflow_sub-result : goal.overflow_sub-result
+overflow_sub-result c = omega (arith, leading_le 64 c.args.b)
 
-returns : tie.Need-returns
-returns c = subnormal c.before.args.b c.before.requires.0 c.if1.true
+pub returns-then-b-lt4503599627370496 : goal.returns-then-b-lt4503599627370496
+returns-then-b-lt4503599627370496 c = subnormal c.args.b c.requires.b_nonzero c.if-b-lt4503599627370496.true
 
-returns-2 : tie.Need-returns-2
-returns-2 c = normal c.before.args.b c.if1.false c.before.requires.1
-
-pub split-bits-spec : {M : Type 1} → statement M
-split-bits-spec = tie.close (tie.spec cast-z sub-z shl-t5 sub-t6 returns (λ c. search rules) (λ c. search rules) returns-2)
+pub returns : goal.returns
+returns c = normal c.args.b c.if-b-lt4503599627370496.false c.requires.b_bound

@@ -1,18 +1,13 @@
--- `root::extend_root` meets its contract. The guess is corrected by a flag and not by a branch. Assumes nothing.
+-- `root::extend_root` meets its contract. The guess is corrected by a flag and not by a branch.
 use Prim.Native.Nat.{ℕ, ◌+◌, ◌-◌, ◌*◌, ◌/◌, ◌%◌, ◌^◌, ◌≤◌, ◌<◌}
 use mathlib.Core.Path.{◌≡◌, ap}
 use mathlib.Core.Bool.{Bool, true, false, not}
 use native.Mathlib.Omega.{arith}
-use borrow.Author.Rules.{rules}
 use lib.Dec.{T, ltb, ltb→lt, nltb→le}
 use mir.Val.{bool_byte}
 use Rattle.float.specs.Inner.{Rooted}
 use Rattle.float.proofs.Squares.{Guess, guess, square_pred}
-use Rattle.root.proofs.extend_root.Statement.{statement}
-use Rattle.root.proofs.extend_root.Tie as tie
-
-at : (c : tie.Start) → Guess c.args.root c.args.rest (c.args.rest * 0x400_0000 / (c.args.root * 2)) (c.args.rest * 0x400_0000 % (c.args.root * 2))
-at c = guess c.args.root c.args.rest c.requires.0 c.requires.1.1
+use Rattle.root.proofs.extend_root.Goals as goal
 
 exact : (s l a u : ℕ) → Guess s l a u → a * a ≤ u * 0x400_0000 → Rooted ((s * s + l) * 2 ^ 52) (s * 0x400_0000 + a) (u * 0x400_0000 - a * a)
 exact s l a u g h = record { whole = omega arith; left = omega arith }
@@ -60,39 +55,39 @@ corrected s l a u p k g = go (ltb (u * 0x400_0000) (a * a)) (ltb→lt (u * 0x400
           rooted = record { whole = omega (arith, o.whole, ap (λ (x : ℕ). x * x) (none (s * 0x400_0000 + a))); left = omega (arith, o.left) };
         }
 
-fixed : (c : tie.Start)
+at : (c : goal.Start) → Guess c.args.root c.args.rest (c.args.rest * 0x400_0000 / (c.args.root * 2)) (c.args.rest * 0x400_0000 % (c.args.root * 2))
+at c = guess c.args.root c.args.rest c.requires.bound c.requires.rest_bound
+
+fixed : (c : goal.Start)
     → Corrected ((c.args.root * c.args.root + c.args.rest) * 2 ^ 52) (c.args.root * 0x400_0000 + c.args.rest * 0x400_0000 / (c.args.root * 2))
     (c.args.rest * 0x400_0000 % (c.args.root * 2) * 0x400_0000)
     (c.args.rest * 0x400_0000 / (c.args.root * 2) * (c.args.rest * 0x400_0000 / (c.args.root * 2)))
     (bool_byte (ltb (c.args.rest * 0x400_0000 % (c.args.root * 2) * 0x400_0000) (c.args.rest * 0x400_0000 / (c.args.root * 2) * (c.args.rest * 0x400_0000 / (c.args.root * 2)))))
-fixed c = corrected c.args.root c.args.rest _ _ c.requires.0 c.requires.1.0 (at c)
+fixed c = corrected c.args.root c.args.rest _ _ c.requires.bound c.requires.root_bound (at c)
 
-mul-v : tie.Need-overflow-mul-v
-mul-v c = let g = at c in omega arith
+pub overflow_mul-v : goal.overflow_mul-v
+overflow_mul-v c = let g = at c in omega arith
 
-mul-w : tie.Need-overflow-mul-w
-mul-w c = let g = at c in omega arith
+pub overflow_mul-w : goal.overflow_mul-w
+overflow_mul-w c = let g = at c in omega arith
 
-add-q : tie.Need-overflow-add-q
-add-q c = let g = at c in omega arith
+pub overflow_add-q : goal.overflow_add-q
+overflow_add-q c = let g = at c in omega arith
 
-sub-t10 : tie.Need-overflow-sub-t10
-sub-t10 c = (fixed c).less
+pub overflow_sub-result : goal.overflow_sub-result
+overflow_sub-result c = (fixed c).less
 
-mul-t12 : tie.Need-overflow-mul-t12
-mul-t12 c = let g = at c in omega arith
+pub overflow_mul-result : goal.overflow_mul-result
+overflow_mul-result c = let g = at c in omega arith
 
-mul-t14 : tie.Need-overflow-mul-t14
-mul-t14 c = omega (arith, (fixed c).step)
+pub overflow_mul-result-2 : goal.overflow_mul-result-2
+overflow_mul-result-2 c = omega (arith, (fixed c).step)
 
-add-t15 : tie.Need-overflow-add-t15
-add-t15 c = omega (arith, (fixed c).sum)
+pub overflow_add-result : goal.overflow_add-result
+overflow_add-result c = omega (arith, (fixed c).sum)
 
-sub-t16 : tie.Need-overflow-sub-t16
-sub-t16 c = (fixed c).enough
+pub overflow_sub-result-3 : goal.overflow_sub-result-3
+overflow_sub-result-3 c = (fixed c).enough
 
-returns : tie.Need-returns
+pub returns : goal.returns
 returns c = (fixed c).rooted
-
-pub extend-root-spec : {M : Type 1} → statement M
-extend-root-spec = tie.close (tie.spec (λ c. search rules) (λ c. search rules) (λ c. search rules) (λ c. search rules) mul-v mul-w (λ c. search rules) add-q (λ c. search rules) sub-t10 mul-t12 (λ c. search rules) mul-t14 add-t15 sub-t16 returns)

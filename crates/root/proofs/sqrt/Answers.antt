@@ -1,25 +1,19 @@
--- `root::sqrt` meets its contract. Assumes nothing.
+-- `root::sqrt` meets its contract.
 use Prim.Native.Nat.{ℕ, ◌^◌, ◌≤◌, ◌<◌}
 use mathlib.Core.Path.{◌≡◌, refl, sym, ap, ◌∙◌, subst}
 use mathlib.Core.Bool.{not}
 use native.Mathlib.Decide.{dec_le}
 use native.Mathlib.Omega.{arith}
-use borrow.Author.Rules.{rules}
 use lib.Dec.{T}
 use lib.Ieee.{Float, nan, binary64, fits, div, is_nan, of_bits, to_bits}
 use lib.Ieee.Bits.{of_bits-to_bits, to_bits-lt}
 use lib.Ieee.Compare.{differs_from_itself}
 use Rattle.float.specs.Root.{sqrt_of}
 use Rattle.float.proofs.Value.{no_nan, negative_bits, above_inf}
-use Rattle.root.proofs.sqrt.Statement.{statement}
+use Rattle.root.proofs.sqrt.Lts as lts
+use Rattle.root.proofs.sqrt.Reads as reads
 use Rattle.root.proofs.sqrt.Tie as tie
-
-held : (c : tie.Start) → T (fits binary64 c.args.x)
-held c = subst T (sym c.well-formed.0.1) tt
-
--- x is what its pattern stands for
-same : (c : tie.Start) → of_bits binary64 (to_bits binary64 c.args.x) ≡ c.args.x
-same c = of_bits-to_bits binary64 c.args.x (held c)
+use Rattle.root.proofs.sqrt.Goals as goal
 
 -- a value of a known pattern that is its own root
 fixed : (x : Float) (b : ℕ) → of_bits binary64 (to_bits binary64 x) ≡ x → to_bits binary64 x ≡ b → of_bits binary64 b ≡ sqrt_of binary64 (of_bits binary64 b) → x ≡ sqrt_of binary64 x
@@ -45,26 +39,6 @@ zero_by_zero : div binary64 (of_bits binary64 0) (of_bits binary64 0) ≡ nan
 unfolding of_bits div
 zero_by_zero = refl
 
-returns : tie.Need-returns
-returns c =
-    let e : c.before.args.x ≡ nan = differs_from_itself c.before.args.x (subst T (sym c.if1.true) tt) in
-    e ∙ at-nan ∙ ap (sqrt_of binary64) (sym e)
-
-float-to-bits-b : tie.Need-float-to-bits-b
-float-to-bits-b c = no_nan c.before.args.x c.if1.false
-
-returns-2 : tie.Need-returns-2
-returns-2 c = fixed c.before.before.args.x 0 (same c.before.before) c.if2.true at_zero
-
-returns-3 : tie.Need-returns-3
-returns-3 c = c.sqrt-bits.ensures.0 ∙ ap (sqrt_of binary64) (same c.before.before.before.before)
-
-returns-4 : tie.Need-returns-4
-returns-4 c = fixed c.before.before.before.before.args.x 0x7ff0_0000_0000_0000 (same c.before.before.before.before) c.if4.true at-inf
-
-returns-5 : tie.Need-returns-5
-returns-5 c = fixed c.before.before.before.before.before.args.x 0x8000_0000_0000_0000 (same c.before.before.before.before.before) c.if5.true at-minus-zero
-
 -- what is left is below zero
 negative : (x : Float) (b : ℕ) → of_bits binary64 b ≡ x → T (not (is_nan x)) → b < 2 ^ 64 → 0x7ff0_0000_0000_0000 ≤ b → (b ≡ 0x7ff0_0000_0000_0000 → ⊥) → (b ≡ 0x8000_0000_0000_0000 → ⊥) → sqrt_of binary64 x ≡ nan
 negative x b s n w l i z = ap (sqrt_of binary64) (sym s) ∙ negative_bits b (go (dec_le b (2 ^ 63))) w
@@ -73,23 +47,35 @@ negative x b s n w l i z = ap (sqrt_of binary64) (sym s) ∙ negative_bits b (go
     go (yes h) = absurd (above_inf b (omega arith) (omega arith) (subst (λ (v : Float). T (not (is_nan v))) (sym s) n))
     go (no h) = omega arith
 
-returns-6 : tie.Need-returns-6
-returns-6 c =
-    let s = c.before.before.before.before.before in
-    let x = s.args.x in
-    zero_by_zero
-    ∙ sym (negative x (to_bits binary64 x) (same s) (no_nan x c.before.before.before.before.if1.false) (to_bits-lt binary64 x (held s)) c.before.before.if3.false c.before.if4.false c.if5.false)
+held : (c : lts.Start tie.the-claims reads.Pre reads.Post tie.handed_clauses) → T (fits binary64 c.args.x)
+held c = subst T (sym c.well_formed.0.1) tt
 
-pub sqrt-spec : {M : Type 1} → statement M
-sqrt-spec =
-    tie.close
-    (tie.spec
-    returns
-    float-to-bits-b
-    returns-2
-    (λ c κs. search rules)
-    (λ c. search rules)
-    returns-3
-    returns-4
-    returns-5
-    returns-6)
+-- x is what its pattern stands for
+same : (c : lts.Start tie.the-claims reads.Pre reads.Post tie.handed_clauses) → of_bits binary64 (to_bits binary64 c.args.x) ≡ c.args.x
+same c = of_bits-to_bits binary64 c.args.x (held c)
+
+pub returns-then-x : goal.returns-then-x
+returns-then-x c =
+    let e : c.args.x ≡ nan = differs_from_itself c.args.x (subst T (sym c.if-x.true) tt) in
+    e ∙ at-nan ∙ ap (sqrt_of binary64) (sym e)
+
+pub float_to_bits-b : goal.float_to_bits-b
+float_to_bits-b c = no_nan c.args.x c.if-x.false
+
+pub returns-then-b-eq0 : goal.returns-then-b-eq0
+returns-then-b-eq0 c = fixed c.args.x 0 (same c.before.before) c.if-b-eq0.true at_zero
+
+pub returns-then-b-lt9218868437227405312 : goal.returns-then-b-lt9218868437227405312
+returns-then-b-lt9218868437227405312 c = c.sqrt_bits-r.ensures.value ∙ ap (sqrt_of binary64) (same c.before.before.before.before)
+
+pub returns-then-b-eq9218868437227405312 : goal.returns-then-b-eq9218868437227405312
+returns-then-b-eq9218868437227405312 c = fixed c.args.x 0x7ff0_0000_0000_0000 (same c.before.before.before.before) c.if-b-eq9218868437227405312.true at-inf
+
+pub returns-then-b : goal.returns-then-b
+returns-then-b c = fixed c.args.x 0x8000_0000_0000_0000 (same c.before.before.before.before.before) c.if-b.true at-minus-zero
+
+pub returns : goal.returns
+returns c =
+    let x = c.args.x in
+    zero_by_zero
+    ∙ sym (negative x (to_bits binary64 x) (same c.before.before.before.before.before) (no_nan x c.if-x.false) (to_bits-lt binary64 x (held c.before.before.before.before.before)) c.if-b-lt9218868437227405312.false c.if-b-eq9218868437227405312.false c.if-b.false)
