@@ -1,4 +1,6 @@
 // Complex numbers as num_complex has them, and rows of them in flat slices.
+#![tactic(auto)]
+
 pub mod rows;
 pub mod units;
 pub mod value;
