@@ -1,4 +1,6 @@
 // The value at a rank of a list: select::percentile.
+#![tactic(auto)]
+
 pub mod select;
 
 // `percentile`'s answer: the value, or none for an empty list.

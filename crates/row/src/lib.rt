@@ -1,4 +1,6 @@
 // The amplitude row of a recording at a carrier: cancel.rs from edge_window to the running sum of find_elements.
+#![tactic(auto)]
+
 pub mod blocks;
 pub mod envelope;
 pub mod samples;
