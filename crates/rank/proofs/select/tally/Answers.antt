@@ -30,21 +30,21 @@ pub offset_bounds-hist-d : goal.offset_bounds-hist-d
 offset_bounds-hist-d c = let h = place c.before in search rules
 
 pub bounds-hist-d : goal.bounds-hist-d
-bounds-hist-d c = let h = place c.before in search rules
+bounds-hist-d c = let h = place c.before.before in search rules
 
 pub overflow_add-hist : goal.overflow_add-hist
 overflow_add-hist c =
     let a = c.args in
-    record { fits = histogram_room c.loop-i.invariant.1 (omega arith) _ (digit_lt c.before.before) (eqb (c.ordinal.result / 2 ^ a.s / 2 ^ a.b) a.p) }
+    record { fits = histogram_room c.loop-i.invariant.1 (omega arith) _ (digit_lt c.before.before.before) (eqb (c.ordinal.result / 2 ^ a.s / 2 ^ a.b) a.p) }
 
 pub offset_bounds-hist-d-in-loop-i : goal.offset_bounds-hist-d-in-loop-i
-offset_bounds-hist-d-in-loop-i c = let h = place c.before.before in search rules
+offset_bounds-hist-d-in-loop-i c = let h = place c.before.before.before in search rules
 
 pub bounds-hist-d-in-loop-i : goal.bounds-hist-d-in-loop-i
-bounds-hist-d-in-loop-i c = let h = place c.before.before in search rules
+bounds-hist-d-in-loop-i c = let h = place c.before.before.before in search rules
 
 pub loop-i-preserved : goal.loop-i-preserved
-loop-i-preserved c = (search rules, histogram_turn (most c.before.before) c.loop-i.invariant.1 c.ordinal.ensures c.digit-d.ensures)
+loop-i-preserved c = (search rules, histogram_turn (most c.before.before.before) c.loop-i.invariant.1 c.ordinal.ensures c.digit-d.ensures)
 
 pub returns : goal.returns
 returns c =
