@@ -1,5 +1,7 @@
 // Elements: the key-downs of a row of amplitudes, with their times, in a lent list; and the row itself with its
 // threshold.
+#![tactic(auto)]
+
 pub mod amplitude;
 pub mod element;
 pub mod find;
