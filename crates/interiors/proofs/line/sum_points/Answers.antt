@@ -1,0 +1,37 @@
+-- The invariant: each sum so far is the specification's, of the first b points.
+use Prim.Native.Nat.{◌-◌}
+use mathlib.Core.Path.{refl, ap, ap₂}
+use lib.Ieee.{mul, binary64}
+use Rattle.lists.proofs.Sums.{f_sum_turn}
+use Rattle.interiors.specs.Line.{time_of}
+use Rattle.interiors.proofs.Laws.{laws}
+use Rattle.interiors.proofs.line.sum_points.Goals as goal
+
+pub loop-b-preserved : goal.loop-b-preserved
+loop-b-preserved c =
+    let inv = c.loop-b.invariant in
+    let p = ap (λ z. z.im) c.get-p.ensures in
+    let q = ap (λ z. z.re) c.get-p.ensures in (
+      search laws,
+      f_sum_turn _ _ _ _ _ _ inv.1 p refl,
+      f_sum_turn _ _ _ _ _ _ inv.2 (ap₂ (mul binary64) p c.time_of.ensures) refl,
+      f_sum_turn _ _ _ _ _ _ inv.3 (ap₂ (mul binary64) p q) refl,
+    )
+
+pub loop-b-init : goal.loop-b-init
+loop-b-init c = search laws
+
+pub get-p-requires : goal.get-p-requires
+get-p-requires c = search laws
+
+pub time_of-requires : goal.time_of-requires
+time_of-requires c = search laws
+
+pub overflow_step-b : goal.overflow_step-b
+overflow_step-b c = search laws
+
+pub loop-b-smaller : goal.loop-b-smaller
+loop-b-smaller c = search laws
+
+pub returns : goal.returns
+returns c = search laws
