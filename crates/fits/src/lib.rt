@@ -1,4 +1,6 @@
 // The fits of a strong sender's elements, and its estimate: cancel.rs from fit_elements to estimate_strong.
+#![tactic(auto)]
+
 pub mod carrier;
 pub mod estimate;
 pub mod fit;

@@ -1,0 +1,4 @@
+use Rattle.fits.proofs.list.fit_at.Goals as goal
+
+pub returns : goal.returns
+returns c = rw c.element_from.ensures
