@@ -1,5 +1,7 @@
 // What a fit says the sender sent, sample by sample, and its removal from a buffer: cancel.rs's rc, fit_span,
 // synth_baseband and the work of subtract.
+#![tactic(auto)]
+
 pub mod baseband;
 pub mod removal;
 pub mod rise;
