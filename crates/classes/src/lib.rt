@@ -1,4 +1,6 @@
 // The classes of a recording's blocks: what each block is to the strong sender.
+#![tactic(auto)]
+
 pub mod class;
 pub mod classify;
 
