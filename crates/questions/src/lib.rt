@@ -1,6 +1,8 @@
 // 01's questions, each once: yes or no; 1 and 3 are answered by crate row. A call, in a crate above, asks those about
 // what it is given, in the order of its own file; what more than one call asks stands here. Callers call `cancel`,
 // which does not hand the questions on.
+#![tactic(auto)]
+
 pub mod refusals;
 
 ghost use Rattle.std.specs.Prelude.{◌≡◌, ◌/◌};

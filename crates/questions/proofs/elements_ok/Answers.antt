@@ -1,0 +1,34 @@
+-- `questions::elements_ok` meets its contract. The loop: every element before place p is accepted. Assumes
+-- nothing.
+use Prim.Native.Nat.{◌-◌}
+use Rattle.elements.specs.Element.{element_at}
+use Rattle.questions.specs.Questions.{element_ok}
+use Rattle.questions.proofs.Given.{given}
+use Rattle.questions.proofs.elements_ok.Goals as goal
+
+pub returns-then-count-list : goal.returns-then-count-list
+returns-then-count-list c = search given
+
+pub loop-p-init : goal.loop-p-init
+loop-p-init c = search given
+
+pub element_at-requires : goal.element_at-requires
+element_at-requires c = search given
+
+pub element_ok-requires : goal.element_ok-requires
+element_ok-requires c = search given
+
+pub returns-then-not-element_ok : goal.returns-then-not-element_ok
+returns-then-not-element_ok c = search given
+
+pub overflow_step-p : goal.overflow_step-p
+overflow_step-p c = search given
+
+pub loop-p-smaller : goal.loop-p-smaller
+loop-p-smaller c = search given
+
+pub loop-p-preserved : goal.loop-p-preserved
+loop-p-preserved c = search given
+
+pub returns : goal.returns
+returns c = search given
