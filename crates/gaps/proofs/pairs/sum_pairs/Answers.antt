@@ -1,0 +1,32 @@
+-- The invariant: what was found so far is the specification's, of the first b blocks.
+use Prim.Native.Nat.{◌-◌}
+use native.Mathlib.Omega.{arith}
+use mathlib.Core.Path.{sym, ◌∙◌}
+use borrow.Author.Rules.{rules}
+use Rattle.constants.proofs.Bits.{pair_factor_bits}
+use Rattle.gaps.proofs.Paired.{pairs_none, pairs_yes, pairs_no, pairs_done, pairs_few, pair_later}
+use Rattle.gaps.proofs.pairs.sum_pairs.Goals.{then-pair_at, else-pair_at}
+use Rattle.gaps.proofs.pairs.sum_pairs.Goals as goal
+
+pub loop-b-init : goal.loop-b-init
+loop-b-init c = (search rules, sym (pairs_none _ _))
+
+pub lagged-p-requires : goal.lagged-p-requires
+lagged-p-requires c =
+    let later = pair_later _ _ (sym c.pair_at.ensures ∙ c.if-pair_at.true) in
+    record { le_b = later; b_in_bounds = omega arith }
+
+pub with-found-requires : goal.with-found-requires
+with-found-requires c =
+    let few = pairs_few _ _ _ _ c.loop-b.invariant.1 in
+    omega arith
+
+pub loop-b-preserved : goal.loop-b-preserved
+loop-b-preserved c =
+    let inv = c.loop-b.invariant in (
+      search rules,
+      elim c.if-pair_at.branch [ then-pair_at w ↦ pairs_yes _ _ _ _ _ _ _ inv.1 c.pair_at.ensures w.if-pair_at.true w.lagged-p.ensures (w.found-is ∙ w.with-found.ensures) | else-pair_at w ↦ pairs_no _ _ _ _ _ _ inv.1 c.pair_at.ensures w.if-pair_at.false w.found-is ],
+    )
+
+pub returns : goal.returns
+returns c = rw pair_factor_bits (pairs_done _ _ _ _ _ c.loop-b.invariant.1 (omega arith) (omega arith))
