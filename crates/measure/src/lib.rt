@@ -1,5 +1,7 @@
 // What a recording's blocks show once a strong sender's estimate is known: cancel.rs's residual_check and
 // second_carrier_evidence, and classify.
+#![tactic(auto)]
+
 pub mod both;
 pub mod evidence;
 pub mod hypothesis;
