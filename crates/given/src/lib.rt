@@ -1,5 +1,7 @@
 // The calls at a given estimate, a file each: it asks 01's questions in its order, then does the work. None has a
 // `requires`. Crate `cancel` hands them on with the other calls.
+#![tactic(auto)]
+
 mod blocks;
 mod evidence;
 mod removal;
