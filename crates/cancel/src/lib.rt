@@ -3,6 +3,8 @@
 // `strong`, those at a given estimate in `given`, `classify`, which asks nothing, in `measure`: all are handed on. With
 // them goes what a caller needs to lend and read lists: `blocks_for`, the numbers of a record (ELEMENT, FIT), and
 // `element_at` and `fit_at`, which read the record at a place and require that the list has that place.
+#![tactic(auto)]
+
 mod running;
 
 pub use classes::ClassCounts;

@@ -1,5 +1,7 @@
 // What each call answers as figures: f64 in the order of include/cancel.h. A call for C hands out these, and stored
 // answers are compared by them.
+#![tactic(auto)]
+
 mod calls;
 mod clean;
 mod flag;
