@@ -1,4 +1,6 @@
 // The C interface, a file for each subject: include/cancel.h says the same for a reader of C.
+#![tactic(auto)]
+
 pub mod blocks;
 pub mod calls;
 pub mod clean;
