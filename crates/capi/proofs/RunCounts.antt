@@ -6,7 +6,7 @@ use mathlib.Core.Path.{◌≡◌, sym, subst}
 use mathlib.Core.List.{List}
 use lib.Ieee.{Float}
 use Rattle.row.specs.Samples.{Iq}
-use Rattle.row.specs.Window.{Rate, window_of, samples, blocks}
+use Rattle.row.specs.Window.{Rate, window_of}
 use Rattle.row.proofs.Means.{blocks_short}
 use Rattle.row.proofs.Steps.{step_high}
 use Rattle.fits.specs.Estimate.{refined, strong_elements, strong_fits, strong_estimate}

@@ -1,15 +1,15 @@
 -- The row of 01's edge table that speaks of classes: n = 3,000, one fit at 1499.5 to 1599.5. The ends of each range are
 -- computed once; what is left is a comparison of whole numbers. Assumes nothing.
-use Prim.Native.Nat.{ℕ, ◌+◌, ◌-◌, ◌*◌, ◌/◌, ◌≤◌, ◌<◌}
-use native.Mathlib.Decide.{dec_le, dec_lt}
+use Prim.Native.Nat.{ℕ, ◌+◌, ◌-◌, ◌<◌}
+use native.Mathlib.Decide.{dec_lt}
 use native.Mathlib.Omega.{arith}
 use mathlib.Core.Path.{◌≡◌, refl, sym, ap, ◌∙◌}
 use mathlib.Core.Bool.{Bool, true, false, ◌&&◌, ◌||◌, cond, and-false, beq}
-use mathlib.Core.List.{List, [], ◌∷◌, ◌++◌}
+use mathlib.Core.List.{List, [], ◌∷◌}
 use borrow.Author.Tests.{lt-ltb, le-ltb, le-leb, lt-leb}
 use lib.Dec.{leb, ltb}
 use lib.IntN.{pos}
-use lib.Ieee.{Float, fin, add, sub, mul, div, lt, eq, is_nan, round, of_int, of_bits, to_unsigned}
+use lib.Ieee.{Float, fin, add, sub, mul, div, lt, is_nan, round, of_int, of_bits, to_unsigned}
 use Rattle.float.specs.Ops.{◌⊕◌, ◌⊖◌, ◌⊗◌, of, two, fraction}
 use Rattle.float.specs.Compare.{max_of}
 use Rattle.float.specs.Whole.{floor_of, ceil_of, whole_by}
@@ -25,7 +25,7 @@ use Rattle.classes.specs.declared.class.BlockClass.{BlockClass}
 use Rattle.classes.specs.declared.class.BlockClass.TheVariants.{Edge, Interior, Gap, Other}
 use Rattle.classes.specs.Class.{is_class}
 use Rattle.classes.proofs.Codes.{class_same}
-use Rattle.classes.specs.Classify.{Times, times_of, times_of_fit, blocks_of, block_centre, first_from, past_last, in_range, in_turn, near, inside, at_edge, element_labels, fit_labels, on_rim, class_at, class_of, counts_of}
+use Rattle.classes.specs.Classify.{Times, times_of_fit, blocks_of, block_centre, first_from, past_last, in_range, in_turn, near, inside, at_edge, element_labels, fit_labels, on_rim, class_at, class_of, counts_of}
 use Rattle.edge_table.specs.Table.{fs, tabled, Classes}
 
 -- from 1499.5 to 1599.5, at 3,000 samples a second

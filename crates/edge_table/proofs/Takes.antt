@@ -6,7 +6,7 @@ use mathlib.Core.Bool.{true, false, and-false}
 use lib.Ieee.{Float, nan, neg, lt, le, eq, of_int, round}
 use Rattle.float.specs.Ops.{of, fraction}
 use Rattle.float.specs.Compare.{abs_of}
-use Rattle.constants.specs.Constants.{MIN_ELEMENTS, MAX_CARRIER_STEP_HZ, CLEAN_EDGE_OVER_NEIGHBOUR_DB, CLEAN_INTERIOR_OVER_NEIGHBOUR_DB}
+use Rattle.constants.specs.Constants.{MAX_CARRIER_STEP_HZ, CLEAN_EDGE_OVER_NEIGHBOUR_DB, CLEAN_INTERIOR_OVER_NEIGHBOUR_DB}
 use Rattle.measure.specs.declared.hypothesis.Hypothesis.{Hypothesis}
 use Rattle.measure.specs.declared.hypothesis.Hypothesis.TheVariants.{OneSignal, TwoSignalCw, NonCw, Unresolved}
 use Rattle.measure.specs.declared.residual.ResidualCheck.{ResidualCheck}

@@ -19,7 +19,6 @@ use Rattle.fits.specs.declared.fit.ElementFit.{ElementFit}
 use Rattle.interiors.specs.Interior.{slope_block}
 use Rattle.fits.specs.List.{skipped_of}
 use Rattle.fits.specs.Estimate.{fits_found}
-use Rattle.synth.specs.declared.span.Span.{Span}
 use Rattle.synth.specs.Span.{span_of}
 use Rattle.classes.specs.declared.class.BlockClass.{BlockClass}
 use Rattle.classes.specs.declared.class.BlockClass.TheVariants.{Edge, Interior, Gap, Other}
@@ -29,7 +28,6 @@ use Rattle.measure.specs.declared.offset.Offset.TheVariants.{Hz}
 use Rattle.measure.specs.declared.evidence.SecondCarrierEvidence.{SecondCarrierEvidence}
 use Rattle.measure.specs.declared.hypothesis.Hypothesis.TheVariants.{OneSignal, TwoSignalCw, Unresolved}
 use Rattle.measure.specs.Hypothesis.{hypothesis_of}
-use Rattle.measure.specs.declared.residual.ResidualCheck.{ResidualCheck}
 use Rattle.measure.specs.Residual.{residual_check_of, clean_of}
 use Rattle.edge_table.specs.Ones.{ones_of, ones_from}
 

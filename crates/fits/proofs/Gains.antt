@@ -2,24 +2,22 @@
 -- (`found_gain`). The sum of the terms is bounded by laws on sines and samples; the sum of the weights, by which it is
 -- divided, is above zero where there is a fit, and then at least 2 ^ -54, since each weight is 0.5 − z for some z.
 -- Assumes nothing.
-use Prim.Native.Nat.{ℕ, zero, suc, ◌+◌, ◌-◌, ◌*◌, ◌/◌, ◌^◌, ◌≤◌, ◌<◌}
+use Prim.Native.Nat.{ℕ, zero, suc, ◌+◌, ◌-◌, ◌*◌, ◌^◌, ◌≤◌, ◌<◌}
 use native.Mathlib.Nat.{suc-mul}
 use native.Mathlib.Omega.{arith}
-use mathlib.Core.Path.{◌≡◌, refl, sym, ap, subst}
+use mathlib.Core.Path.{◌≡◌, refl, sym, subst}
 use mathlib.Core.Logic.{⊎_elim}
 use mathlib.Core.Bool.{Bool, true, false, cond}
 use mathlib.Core.List.Memᴰ
-use mathlib.Core.List.{List, [], ◌∷◌, ◌++◌, Memᴰ}
-use lib.Dec.{T, lit≤, lit<}
+use mathlib.Core.List.{List, [], ◌∷◌, Memᴰ}
+use lib.Dec.{lit≤}
 use lib.ListN.{length}
 use lib.Ieee.{Float, binary64, le, of_bits}
 use lib.Ieee.Fits.{mul-fits}
-use lib.Ieee.Scale.{finite}
-use Rattle.float.specs.Ops.{◌⊕◌, ◌⊖◌, ◌⊗◌, ◌⊘◌, half, plus_zero}
+use Rattle.float.specs.Ops.{◌⊕◌, ◌⊘◌, half, plus_zero}
 use Rattle.float.proofs.Bounds.{Bounded, bounded_zero, bounded_more, bounded_shift, bounded_add, bounded_sub, bounded_mul, bounded_finite}
 use Rattle.trig.specs.Circle.{cos_of}
 use Rattle.trig.proofs.Bounds.{sine_bounded, cosine_bounded}
-use Rattle.complex.specs.declared.value.Complex.{Complex}
 use Rattle.complex.specs.Value.{c_div, c_polar}
 use Rattle.complex.specs.Rows.{c_sum}
 use Rattle.complex.proofs.Bounds.{CBounded, cbounded_more, cbounded_mul, cbounded_sum}
@@ -36,7 +34,7 @@ use Rattle.fits.specs.declared.fit.ElementFit.{ElementFit}
 use Rattle.fits.specs.declared.fit.Fit.{Fit}
 use Rattle.fits.specs.declared.fit.Fit.TheVariants.{Fitted, Skipped}
 use Rattle.interiors.specs.Interior.{interior_of, slope_block}
-use Rattle.interiors.specs.Gain.{hann, tilt_of, leveled, gain_sum, hann_sum}
+use Rattle.interiors.specs.Gain.{hann, leveled, gain_sum, hann_sum}
 use Rattle.fits.specs.Fit.{fit_inside, fit_within, fit_of}
 use Rattle.fits.specs.List.{if_fitted, fits_of}
 use Rattle.fits.specs.Estimate.{fits_found}

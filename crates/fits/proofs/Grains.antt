@@ -4,7 +4,7 @@
 use mathlib.Core.Path.{◌≡◌, refl, sym, ap, ◌∙◌, subst}
 use mathlib.Core.Bool.{Bool, true, false, not, ◌&&◌, beq, cond, true≢false, false≢true}
 use Prim.Native.Nat.{ℕ, zero, suc, ◌+◌, ◌-◌, ◌*◌, ◌^◌, ◌≤◌, ◌<◌}
-use native.Mathlib.Nat.{le_trans, le_of_eq, lt_of_lt_of_le, lt_of_not-le, le_of_suc-le-suc, zero-mul, one-mul, mul-one, mul_comm, mul_assoc, mul_left_comm, mul_right_comm, add-mul, mul-sub, mul-le-mul, mul-le-mul_right, mul-pos, le_of_mul-le-mul_right, eq_of_mul-eq-mul_right}
+use native.Mathlib.Nat.{le_trans, le_of_eq, lt_of_lt_of_le, lt_of_not-le, le_of_suc-le-suc, zero-mul, one-mul, mul-one, mul_comm, mul_assoc, mul_left_comm, add-mul, mul-sub, mul-le-mul, mul-le-mul_right, le_of_mul-le-mul_right, eq_of_mul-eq-mul_right}
 use native.Mathlib.Decide.{dec_le, dec_lt}
 use native.Mathlib.Omega.{arith}
 use lib.IntN.{ℤ}
@@ -21,7 +21,7 @@ use Rattle.float.proofs.Compared.{le→value}
 use Rattle.float.proofs.Signs.{Signed, round_signed}
 use Rattle.float.proofs.Exactly.{fits_parts, exponent, neg_round}
 use Rattle.float.proofs.Sums.{neg_value, add_over, sub_over, sum_plus, sum_less}
-use Rattle.float.proofs.Meaning.{Digits, digits, multiple, InUnits, in_units}
+use Rattle.float.proofs.Meaning.{digits, multiple, in_units}
 use Rattle.float.proofs.Within.{AtLeast}
 use Rattle.float.proofs.Bounds.{Under, Bounded, div_bounded}
 

@@ -11,7 +11,7 @@ use Rattle.lists.specs.Fill.{fill}
 use Rattle.lists.specs.Firsts.{firsts}
 use Rattle.lists.specs.Records.{beyond_places, Handed, handed, handed_numbers, keeping, stored_by}
 use Rattle.lists.proofs.Fill.{length_fill, part_fill}
-use Rattle.lists.proofs.Firsts.{length_firsts, firsts_all}
+use Rattle.lists.proofs.Firsts.{firsts_all}
 
 -- ---- one record: what the two functions have to do with its width
 pub record Kind (N A : Type 0) (width : ℕ) (get : List N → ℕ → A) (put : List N → ℕ → A → List N) : Type 0 where

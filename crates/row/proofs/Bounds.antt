@@ -3,7 +3,7 @@
 -- A finite f32 is below 2 ^ 128 and a sine at most 2 ^ 50, so that 2 ^ 20 moves of the running sum stay far below the
 -- largest f64 and their squares too. Assumes nothing.
 use mathlib.Core.Path.{◌≡◌, sym, subst}
-use mathlib.Core.Bool.{true, false, false≢true}
+use mathlib.Core.Bool.{true, false≢true}
 use mathlib.Core.List.{List}
 use Prim.Native.Nat.{ℕ, zero, suc, ◌+◌, ◌-◌, ◌*◌, ◌^◌, ◌≤◌, ◌<◌}
 use native.Mathlib.Nat.{suc-mul}

@@ -8,7 +8,7 @@ use lib.ListN.{length}
 use lib.Ieee.{Float}
 use borrow.Rule.Slice.PartMut.{mid_of, put_mid}
 use Rattle.complex.specs.declared.value.Complex.{Complex}
-use Rattle.complex.specs.Rows.{z_at, z_set, z_fill}
+use Rattle.complex.specs.Rows.{z_at, z_set}
 use Rattle.complex.proofs.RowLaws.{z_fill_none, z_fill_turn0, z_fill_cong, length_z_fill}
 use Rattle.lists.specs.Firsts.{firsts}
 use Rattle.row.specs.Window.{samples}

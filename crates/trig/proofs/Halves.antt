@@ -1,6 +1,6 @@
 -- y to the nearest whole number, a half away from zero, by the size of y: what `marked` adds to the mark where y may
 -- lie half-way between two. Assumes nothing.
-use Rattle.std.proofs.Common.{◌≡◌, ℕ, zero, suc, ◌+◌, ◌*◌, ◌^◌, ◌<◌, ◌≤◌, Bool, true, false, cond, not, T, ℤ, pos, negsuc, sym, refl, ap, ◌∙◌, zero-le, zero-mul, arith, nltb→le, T_not}
+use Rattle.std.proofs.Common.{◌≡◌, ℕ, zero, suc, ◌+◌, ◌*◌, ◌^◌, ◌<◌, ◌≤◌, Bool, true, false, cond, not, T, ℤ, pos, sym, refl, ap, ◌∙◌, zero-le, arith, nltb→le, T_not}
 use native.Mathlib.Nat.{div-eq_of_lt}
 use lib.Ieee.{Float, nan, inf, fin, binary64, up, down, round, neg, lt, le, of_int, fits}
 use lib.Ieee.Fits.{down_pos}

@@ -1,6 +1,6 @@
 -- The sign of an entry of the sine table, set in its bit pattern. Assumes nothing.
-use Rattle.std.proofs.Common.{◌≡◌, ℕ, ◌+◌, ◌*◌, ◌^◌, ◌<◌, Bool, true, false, cond, not, T, get_or, ℤ, sym, refl, ap, ◌∙◌, subst, inl, inr, add-zero, arith, lit<, lit≤}
-use lib.Ieee.{Float, nan, inf, fin, binary64, round, neg, is_nan, of_bits, to_bits, nan_bits}
+use Rattle.std.proofs.Common.{◌≡◌, ℕ, ◌+◌, ◌*◌, ◌^◌, ◌<◌, Bool, true, false, cond, not, T, get_or, ℤ, sym, refl, ap, ◌∙◌, inl, inr, add-zero, arith, lit<, lit≤}
+use lib.Ieee.{inf, fin, binary64, round, neg, is_nan, of_bits, to_bits, nan_bits}
 use lib.Ieee.Bits.{of_bits-to_bits, to_bits-lt, nan_bits_is}
 use lib.Ieee.Fits.{round-fits}
 use Rattle.float.proofs.Exactly.{neg_round}

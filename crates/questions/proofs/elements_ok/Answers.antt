@@ -1,8 +1,5 @@
 -- `questions::elements_ok` meets its contract. The loop: every element before place p is accepted. Assumes
 -- nothing.
-use Prim.Native.Nat.{◌-◌}
-use Rattle.elements.specs.Element.{element_at}
-use Rattle.questions.specs.Questions.{element_ok}
 use Rattle.questions.proofs.Given.{given}
 use Rattle.questions.proofs.elements_ok.Goals as goal
 

@@ -1,8 +1,5 @@
 -- `questions::fits_ok` meets its contract. The loop: every fit before place p is accepted. Assumes
 -- nothing.
-use Prim.Native.Nat.{◌-◌}
-use Rattle.fits.specs.List.{fit_at}
-use Rattle.questions.specs.Questions.{fit_ok}
 use Rattle.questions.proofs.Given.{given}
 use Rattle.questions.proofs.fits_ok.Goals as goal
 

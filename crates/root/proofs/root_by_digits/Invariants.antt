@@ -1,4 +1,4 @@
-use Prim.Native.Nat.{◌-◌, ◌/◌, ◌%◌, ◌^◌, ◌≤◌}
+use Prim.Native.Nat.{◌/◌, ◌%◌, ◌^◌, ◌≤◌}
 use mathlib.Core.Path.{◌≡◌}
 use Rattle.float.specs.Inner.{Rooted}
 use Rattle.root.proofs.root_by_digits.Given as goal

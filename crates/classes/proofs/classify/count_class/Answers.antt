@@ -1,5 +1,4 @@
 -- The invariant: so many of the first b blocks have the class.
-use Prim.Native.Nat.{◌-◌}
 use native.Mathlib.Omega.{arith}
 use borrow.Author.Rules.{rules}
 use Rattle.classes.specs.Classify.{count_in}

@@ -1,8 +1,7 @@
 -- The invariant: x is at each place below b.
-use Prim.Native.Nat.{◌-◌}
 use mathlib.Core.Path.{refl}
 use mathlib.Core.Bool.{true}
-use lib.ListN.{length, length-set}
+use lib.ListN.{length-set}
 use Rattle.classes.proofs.Labelled.{label_none, label_yes, label_everywhere}
 use borrow.Author.Rules.{rules}
 use Rattle.classes.proofs.classify.label_all.Goals as goal

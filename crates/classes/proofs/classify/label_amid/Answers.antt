@@ -1,7 +1,6 @@
 -- The invariant: x is at those places from a up to b whose centre lies between lo and hi, and `from` is where block b
 -- starts. From an a past e there is no turn, and a start that is cut to e is not where block a starts, so that is said
 -- for b up to e alone.
-use Prim.Native.Nat.{◌-◌}
 use native.Mathlib.Nat.{min-eq_left}
 use native.Mathlib.Omega.{arith}
 use mathlib.Core.Path.{refl, ap, ◌∙◌}

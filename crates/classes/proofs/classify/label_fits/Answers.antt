@@ -1,5 +1,4 @@
 -- The invariant: the first k fits have labelled.
-use Prim.Native.Nat.{◌-◌}
 use Rattle.fits.specs.List.{fits_in}
 use Rattle.classes.proofs.Turns.{turns_none, turns_next, turns_done}
 use borrow.Author.Rules.{rules}

@@ -1,8 +1,7 @@
 -- The invariant: x is at the places from a up to b.
-use Prim.Native.Nat.{◌-◌}
 use mathlib.Core.Path.{refl, sym}
 use mathlib.Core.Bool.{true, and-true}
-use lib.ListN.{length, length-set}
+use lib.ListN.{length-set}
 use Rattle.classes.proofs.Labelled.{label_none, label_yes, label_range}
 use borrow.Author.Rules.{rules}
 use Rattle.classes.proofs.classify.label_range.Goals as goal

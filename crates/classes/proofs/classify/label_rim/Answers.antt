@@ -1,5 +1,4 @@
 -- The invariant: Other is at those places below b that lie on the rim, and `from` is where block b starts.
-use Prim.Native.Nat.{◌-◌}
 use mathlib.Core.Path.{refl, ap, ◌∙◌}
 use lib.ListN.{length, length-set}
 use Rattle.row.proofs.Means.{start_next}

@@ -1,7 +1,5 @@
 -- The invariant: the sum so far is the specification's sum of the first j numbers. Before the loop it is ZERO.
-use Prim.Native.Nat.{◌-◌}
 use borrow.Author.Rules.{rules}
-use Rattle.complex.specs.Rows.{c_sum}
 use Rattle.complex.proofs.RowLaws.{c_sum_none0, c_sum_turn0, c_sum_done0}
 use Rattle.complex.proofs.rows.sum.Goals as goal
 

@@ -1,5 +1,4 @@
 -- `complex::units::units` meets its contract. The invariant: k units are stored.
-use Prim.Native.Nat.{◌-◌}
 use Rattle.complex.proofs.Angles.{stores}
 use Rattle.complex.proofs.units.units.Goals as goal
 

@@ -1,9 +1,8 @@
 -- `elements::amplitude::copy_row` meets its contract. The loop: the first i numbers are copied.
-use Prim.Native.Nat.{◌+◌, ◌-◌}
+use Prim.Native.Nat.{◌+◌}
 use native.Mathlib.Omega.{arith}
 use mathlib.Core.Path.{◌≡◌, refl, ap, ◌∙◌}
 use lib.ListN.{length}
-use Rattle.lists.specs.Fill.{fill}
 use Rattle.lists.proofs.Fill.{length_fill, fill_none, fill_turn, fill_done}
 use Rattle.elements.proofs.amplitude.copy_row.Goals as goal
 

@@ -1,6 +1,5 @@
 -- `elements::keying::scan` meets its contract. The loop keeps `Walked`: what is pending, the counts and the list are
 -- those of the positions behind it.
-use Prim.Native.Nat.{◌-◌}
 use native.Mathlib.Omega.{arith}
 use mathlib.Core.Path.{sym, ◌∙◌}
 use Rattle.elements.proofs.Walk.{walked_none, walked_up, walked_same, walked_down, walked_length, walked_done}

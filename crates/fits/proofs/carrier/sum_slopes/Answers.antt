@@ -1,9 +1,7 @@
 -- The invariant: both sums so far are the specification's, of the first k fits.
-use Prim.Native.Nat.{◌-◌}
 use mathlib.Core.Path.{refl, ap₂}
 use borrow.Author.Rules.{rules}
 use Rattle.float.specs.Ops.{◌⊗◌}
-use Rattle.fits.specs.Carrier.{fit_weight}
 use Rattle.fits.proofs.Carriers.{over_none, over_turn, over_done}
 use Rattle.fits.proofs.carrier.sum_slopes.Goals as goal
 

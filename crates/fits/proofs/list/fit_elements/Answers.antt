@@ -1,5 +1,4 @@
 -- The invariant: the fits of the first k elements are stored, and counted; they are no more than k.
-use Prim.Native.Nat.{◌-◌}
 use Rattle.interiors.proofs.Laws.{laws}
 use Rattle.fits.proofs.Listing.{fits_none, fits_turn, fits_few, fits_done}
 use Rattle.fits.proofs.list.fit_elements.Goals as goal

@@ -6,7 +6,6 @@ use Rattle.float.proofs.Picks.{cut_steps}
 use Rattle.float.proofs.Wholes.{Small, small_is, large}
 use Rattle.float.proofs.whole.whole_down.Lts as lts
 use Rattle.float.proofs.whole.whole_down.Reads as reads
-use Rattle.float.proofs.whole.whole_down.Tie as tie
 use Rattle.float.proofs.whole.whole_down.Goals as goal
 
 next-to : (c : lts.Then1 reads.Pre reads.Post) → Small c.args.x

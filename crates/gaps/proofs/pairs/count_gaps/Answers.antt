@@ -1,8 +1,6 @@
 -- The invariant: both counts are those of the first b blocks.
-use Prim.Native.Nat.{◌-◌}
 use native.Mathlib.Omega.{arith}
 use borrow.Author.Rules.{rules}
-use Rattle.gaps.specs.Pairs.{above}
 use Rattle.gaps.proofs.Counted.{count_none, count_yes, count_no}
 use Rattle.gaps.proofs.Paired.{gaps_done}
 use Rattle.gaps.proofs.pairs.count_gaps.Goals.{then-is_class, else-is_class, then-above, else-above}

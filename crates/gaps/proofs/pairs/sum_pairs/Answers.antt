@@ -1,5 +1,4 @@
 -- The invariant: what was found so far is the specification's, of the first b blocks.
-use Prim.Native.Nat.{◌-◌}
 use native.Mathlib.Omega.{arith}
 use mathlib.Core.Path.{sym, ◌∙◌}
 use borrow.Author.Rules.{rules}

@@ -1,13 +1,10 @@
 -- The invariant: n powers of the first b blocks are stored, and `from` is where block b starts.
-use Prim.Native.Nat.{◌-◌}
 use native.Mathlib.Omega.{arith}
 use mathlib.Core.Path.{refl, ap, ◌∙◌}
-use mathlib.Core.Logic.{⊎_elim}
 use lib.ListN.{length, length-set}
 use borrow.Author.Rules.{rules}
 use Rattle.lists.specs.Count.{count_to}
 use Rattle.lists.specs.Those.{keep}
-use Rattle.row.specs.Blocks.{block_mean}
 use Rattle.row.proofs.Means.{start_within, raised_fits, start_next, block_mean_is}
 use Rattle.complex.specs.Value.{c_norm_sqr}
 use Rattle.gaps.proofs.References.{kept_yes, kept_no, kept_done}

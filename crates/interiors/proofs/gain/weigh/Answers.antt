@@ -1,11 +1,8 @@
 -- The invariant: both sums so far are the specification's, of the first j samples of the interior.
-use Prim.Native.Nat.{◌-◌}
 use native.Mathlib.Omega.{arith}
 use mathlib.Core.Path.{refl}
-use Rattle.complex.specs.Rows.{c_sum}
-use Rattle.lists.specs.Sums.{f_sum}
 use Rattle.lists.proofs.Sums.{f_sum_turn}
-use Rattle.interiors.specs.Gain.{hann, leveled, gain_sum, hann_sum}
+use Rattle.interiors.specs.Gain.{gain_sum, hann_sum}
 use Rattle.interiors.proofs.Laws.{laws, c_sum_turn00, leveled_is}
 use Rattle.interiors.proofs.gain.weigh.Goals as goal
 

@@ -1,5 +1,4 @@
 -- The invariant: j samples are kept.
-use Prim.Native.Nat.{◌-◌}
 use native.Mathlib.Omega.{arith}
 use borrow.Author.Rules.{rules}
 use Rattle.interiors.proofs.Keeping.{kept_none, kept_turn, kept_done}

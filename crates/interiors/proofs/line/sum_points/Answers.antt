@@ -1,9 +1,7 @@
 -- The invariant: each sum so far is the specification's, of the first b points.
-use Prim.Native.Nat.{◌-◌}
 use mathlib.Core.Path.{refl, ap, ap₂}
 use lib.Ieee.{mul, binary64}
 use Rattle.lists.proofs.Sums.{f_sum_turn}
-use Rattle.interiors.specs.Line.{time_of}
 use Rattle.interiors.proofs.Laws.{laws}
 use Rattle.interiors.proofs.line.sum_points.Goals as goal
 

@@ -1,9 +1,7 @@
 -- The invariant: the phase and the mean are those of block b, the points before it are stored, and the samples kept.
-use Prim.Native.Nat.{◌+◌, ◌-◌}
+use Prim.Native.Nat.{◌+◌}
 use native.Mathlib.Omega.{arith}
-use Rattle.complex.specs.Rows.{z_fill}
 use Rattle.complex.proofs.RowLaws.{z_fill_turn0}
-use Rattle.interiors.specs.Slope.{slope_mean}
 use Rattle.interiors.proofs.Laws.{laws, block_inside, phase_turn, point_is, z_fill_last}
 use Rattle.interiors.proofs.Keeping.{kept_put}
 use Rattle.interiors.proofs.slope.unwrap_phase.Goals as goal

@@ -1,12 +1,9 @@
 -- The invariant: the sum so far is that of the blocks in pairs among the first b, and `from` is where block b starts.
-use Prim.Native.Nat.{◌-◌}
 use native.Mathlib.Omega.{arith}
 use mathlib.Core.Path.{refl, ap, ◌∙◌}
 use borrow.Author.Rules.{rules}
 use Rattle.complex.specs.Value.{c_norm_sqr}
-use Rattle.row.specs.Blocks.{block_mean}
 use Rattle.row.proofs.Means.{start_within, raised_fits, start_next, block_mean_is}
-use Rattle.gaps.specs.Pairs.{in_pair}
 use Rattle.measure.proofs.Offsets.{over_none, over_yes, over_no, over_done}
 use Rattle.measure.proofs.offset.paired_power.Goals.{then-in_pair, else-in_pair}
 use Rattle.measure.proofs.offset.paired_power.Goals as goal

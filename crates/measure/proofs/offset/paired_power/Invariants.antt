@@ -1,5 +1,5 @@
 use Prim.Native.Nat.{◌*◌, ◌≤◌, ◌-◌}
-use mathlib.Core.Path.{◌≡◌, ap}
+use mathlib.Core.Path.{◌≡◌}
 use Rattle.float.specs.Ops.{minus_zero}
 use Rattle.lists.specs.Sums.{sum_over}
 use Rattle.lists.specs.Those.{picked}

@@ -1,8 +1,6 @@
 -- The invariant: i numbers are copied.
-use Prim.Native.Nat.{◌-◌}
 use native.Mathlib.Omega.{arith}
 use borrow.Author.Rules.{rules}
-use Rattle.lists.specs.Fill.{fill}
 use Rattle.lists.proofs.Fill.{fill_none, fill_turn, fill_done, get_d_fill_below}
 use Rattle.prepared.proofs.left.copy_means.Goals as goal
 

@@ -1,5 +1,5 @@
 -- The invariant: the blocks before b are done, and `from` is where block b starts.
-use Prim.Native.Nat.{◌+◌, ◌*◌, ◌-◌, ◌≤◌, ◌<◌}
+use Prim.Native.Nat.{◌+◌, ◌*◌, ◌≤◌, ◌<◌}
 use native.Mathlib.Omega.{arith}
 use native.Mathlib.Nat.{mod-le}
 use mathlib.Core.Path.{refl}

@@ -1,5 +1,4 @@
 -- The invariant: the first k fits are taken off each mean.
-use Prim.Native.Nat.{◌-◌}
 use borrow.Author.Rules.{rules}
 use Rattle.prepared.proofs.Less.{fits_none, fits_turn, fits_done}
 use Rattle.prepared.proofs.left.subtract_fits.Goals as goal

@@ -1,7 +1,5 @@
 -- The invariant: the terms of the first j samples are taken off.
-use Prim.Native.Nat.{◌-◌}
 use borrow.Author.Rules.{rules}
-use Rattle.prepared.specs.Left.{less_from}
 use Rattle.prepared.proofs.Less.{less_from_none, less_from_turn, less_from_done}
 use Rattle.prepared.proofs.left.subtract_from.Goals as goal
 

@@ -1,4 +1,4 @@
-use Prim.Native.Nat.{◌-◌, ◌^◌, ◌≤◌}
+use Prim.Native.Nat.{◌^◌, ◌≤◌}
 use Rattle.rank.specs.Inner.{RankIn}
 use Rattle.rank.proofs.select.by_digits.Given as goal
 

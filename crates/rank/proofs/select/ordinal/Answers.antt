@@ -10,7 +10,6 @@ use Rattle.rank.specs.Inner.{ordinal_of}
 use Rattle.rank.proofs.Ordinals.{ordinal_nan, ordinal_number, ordinal_plus, ordinal_minus}
 use Rattle.rank.proofs.select.ordinal.Lts as lts
 use Rattle.rank.proofs.select.ordinal.Reads as reads
-use Rattle.rank.proofs.select.ordinal.Tie as tie
 use Rattle.rank.proofs.select.ordinal.Goals as goal
 
 held : (c : lts.Start reads.Pre reads.Post) → T (fits binary64 c.args.x)

@@ -1,6 +1,6 @@
 -- `rank::select::shared` meets its contract.
 -- The invariant: x and y are a and b without their last t bits. Without 64 bits both are 0.
-use Prim.Native.Nat.{ℕ, ◌-◌, ◌/◌, ◌^◌, ◌≤◌, ◌<◌}
+use Prim.Native.Nat.{ℕ, ◌/◌, ◌^◌, ◌≤◌, ◌<◌}
 use mathlib.Core.Path.{◌≡◌, sym, ap, ◌∙◌}
 use native.Mathlib.Nat.{div-one, div-eq_of_lt, lt_of_lt_of_le}
 use native.Mathlib.Decide.{dec_lt}

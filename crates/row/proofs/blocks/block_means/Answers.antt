@@ -1,9 +1,6 @@
 -- The invariant: b means are stored, and `from` is where block b starts.
-use Prim.Native.Nat.{◌-◌}
 use mathlib.Core.Path.{refl, ◌∙◌}
-use Rattle.complex.specs.Rows.{z_fill}
 use Rattle.complex.proofs.RowLaws.{z_fill_none, z_fill_turn0, z_fill_done}
-use Rattle.row.specs.Blocks.{block_mean}
 use Rattle.row.proofs.Means.{start_within, raised_fits, start_next, block_mean_is}
 use Rattle.row.proofs.Unturned.{means_still}
 use borrow.Author.Rules.{rules}

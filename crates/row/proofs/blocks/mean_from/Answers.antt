@@ -1,8 +1,6 @@
 -- The invariant: the sum so far is the specification's sum of the samples from a up to k.
-use Prim.Native.Nat.{◌-◌}
 use native.Mathlib.Omega.{arith}
 use mathlib.Core.Path.{◌∙◌}
-use Rattle.row.specs.Blocks.{derot}
 use Rattle.row.proofs.Unturned.{mean_still}
 use Rattle.row.proofs.Laws.{laws}
 use Rattle.row.proofs.blocks.mean_from.Goals as goal

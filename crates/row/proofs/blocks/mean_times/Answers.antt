@@ -1,7 +1,5 @@
 -- The invariant: the sum so far is that of the samples from a up to k, each times z.
-use Prim.Native.Nat.{◌-◌}
 use native.Mathlib.Omega.{arith}
-use Rattle.complex.specs.Rows.{c_sum}
 use Rattle.complex.proofs.RowLaws.{c_sum_turn}
 use Rattle.row.specs.Inner.{times}
 use Rattle.row.proofs.Laws.{laws}

@@ -1,9 +1,6 @@
 -- The invariant: b means are stored, and `from` is where block b starts.
-use Prim.Native.Nat.{◌-◌}
 use mathlib.Core.Path.{refl}
-use Rattle.complex.specs.Rows.{z_fill}
 use Rattle.complex.proofs.RowLaws.{z_fill_none, z_fill_turn0, z_fill_done}
-use Rattle.row.specs.Inner.{mean_times}
 use Rattle.row.proofs.Means.{start_within, raised_fits, start_next}
 use borrow.Author.Rules.{rules}
 use Rattle.row.proofs.blocks.means_times.Goals as goal

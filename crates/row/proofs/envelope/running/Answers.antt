@@ -1,6 +1,5 @@
 -- The invariant: i amplitudes are stored, and the running sum is the specification's number i, of the row as it was
 -- at entry.
-use Prim.Native.Nat.{◌-◌}
 use native.Mathlib.Omega.{arith}
 use Rattle.row.proofs.Laws.{laws}
 use Rattle.row.proofs.Running.{run_turn, row_done}

@@ -1,5 +1,4 @@
 -- The invariant: the flag says whether the first i numbers are finite.
-use Prim.Native.Nat.{◌-◌}
 use Rattle.row.proofs.Laws.{laws}
 use Rattle.row.proofs.samples.all_finite.Goals.{then-not-finite_single, else-not-finite_single}
 use Rattle.row.proofs.samples.all_finite.Goals as goal

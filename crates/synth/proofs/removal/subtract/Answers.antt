@@ -1,8 +1,6 @@
 -- The invariant: the first p fits are taken off.
-use Prim.Native.Nat.{◌-◌}
 use mathlib.Core.Path.{ap, ◌∙◌}
 use lib.ListN.{length}
-use Rattle.synth.specs.Removal.{subtracted}
 use Rattle.synth.proofs.Spans.{span_within}
 use Rattle.synth.proofs.Removals.{length_subtracted, subtracted_turn}
 use Rattle.synth.proofs.Laws.{laws}

@@ -1,5 +1,4 @@
 -- The invariant: the first j samples of the part are done, and the others are as they were.
-use Prim.Native.Nat.{◌-◌}
 use Rattle.synth.proofs.Laws.{laws}
 use Rattle.synth.proofs.removal.subtract_span.Goals as goal
 

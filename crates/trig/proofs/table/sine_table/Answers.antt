@@ -1,8 +1,7 @@
 -- `trig::table::sine_table` meets its contract: the constant is the table of the rule. The invariant: k of its entries
 -- are divided and stored.
-use Rattle.std.proofs.Common.{◌-◌, ◌∙◌, rules}
+use Rattle.std.proofs.Common.{◌∙◌, rules}
 use lib.Ieee.{of_bits, of_int}
-use Rattle.lists.specs.Fill.{fill}
 use Rattle.lists.proofs.Fill.{fill_none, fill_turn0, fill_done}
 use Rattle.trig.specs.Sine.{sine_table}
 use Rattle.trig.specs.Circle.{entry_of}
