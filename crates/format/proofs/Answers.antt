@@ -3,33 +3,14 @@ use Prim.Native.Nat.{ℕ, zero, suc, ◌+◌, ◌≤◌, ◌<◌}
 use native.Mathlib.Omega.{arith}
 use mathlib.Core.Path.{◌≡◌, refl}
 use mathlib.Core.Bool.{Bool, true, false}
-use lib.Dec.{T, ltb}
-use lib.IntN.{ℤ, pos, negsuc, nat_abs}
-use lib.Signed.{lt_z, non_neg}
+use lib.Dec.{ltb}
 use borrow.Author.Tests.{ltb-true, lt-ltb, le-ltb}
-use Rattle.libc.specs.Io.{Moved}
+use Rattle.std.specs.Prelude.{None, Some}
+use Rattle.std.specs.declared.option.Option.{Option}
 use Rattle.format.specs.declared.reads.Read.{Read}
 use Rattle.format.specs.declared.reads.Reading.{Reading}
 use Rattle.format.specs.declared.reads.Reading.TheVariants.{Failed, Ended, Full, More}
 use Rattle.format.specs.Input.{Made, room_for, came_of, answer_of, reading_of, end_of, count_of}
-
--- a negative answer
-pub failed_is : (room there : ℕ) (z : ℤ) → lt_z z (pos 0) ≡ true → Failed ≡ answer_of room there z
-failed_is room there (negsuc k) h = refl
-failed_is room there (pos k) h = let below = ltb-true k 0 h in absurd (omega arith)
-
--- any other
-pub not_negative : (z : ℤ) → lt_z z (pos 0) ≡ false → T (non_neg z)
-not_negative (pos k) h = tt
-not_negative (negsuc k) h = let z : ◌≡◌ {A = ℕ} 0 1 = cc in absurd (omega arith)
-
-pub came_is : (room there : ℕ) (z : ℤ) → T (non_neg z) → answer_of room there z ≡ came_of room there (nat_abs z)
-came_is room there (pos k) h = refl
-came_is room there (negsuc k) h = absurd h
-
-pub moved_most : (asked : ℕ) (z : ℤ) → T (non_neg z) → Moved asked z → nat_abs z ≤ asked
-moved_most asked (pos k) h m = m
-moved_most asked (negsuc k) h m = absurd h
 
 pub ended_is : (room there k : ℕ) → k ≡ 0 → Ended ≡ came_of room there k
 ended_is room there k none = rw none
@@ -47,10 +28,10 @@ on_by_room : (n m room : ℕ) (b : Bool) → ltb m room ≡ b → More n ≡ roo
 on_by_room n m room true t e = (cc, ltb-true m room t)
 on_by_room n m room false t e = let z : ◌≡◌ {A = ℕ} 0 1 = cc in absurd (omega arith)
 
-on_by_answer : (n room there : ℕ) (z : ℤ) → More n ≡ answer_of room there z → (there < n) × (n < room)
-on_by_answer n room there (negsuc k) e = let z : ◌≡◌ {A = ℕ} 0 1 = cc in absurd (omega arith)
-on_by_answer n room there (pos zero) e = let z : ◌≡◌ {A = ℕ} 0 1 = cc in absurd (omega arith)
-on_by_answer n room there (pos (suc k)) e =
+on_by_answer : (n room there : ℕ) (answer : Option ℕ) → More n ≡ answer_of room there answer → (there < n) × (n < room)
+on_by_answer n room there None e = let z : ◌≡◌ {A = ℕ} 0 1 = cc in absurd (omega arith)
+on_by_answer n room there (Some zero) e = let z : ◌≡◌ {A = ℕ} 0 1 = cc in absurd (omega arith)
+on_by_answer n room there (Some (suc k)) e =
     let on = on_by_room n (there + suc k) room (ltb (there + suc k) room) refl e in
     (omega arith, omega arith)
 

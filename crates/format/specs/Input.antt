@@ -1,17 +1,17 @@
 -- Reading an input to its end, a piece at a time: what one read means for the whole. What the reads answer is the
--- operating system's. Definitions only.
-use Rattle.std.specs.Prelude.{ℕ, zero, suc, ◌+◌, ◌≤◌, Bool, true, false, ltb, ℤ, pos, negsuc}
-use Rattle.libc.specs.Io.{Moved}
+-- reader's. Definitions only.
+use Rattle.std.specs.Prelude.{ℕ, zero, suc, ◌+◌, ◌≤◌, Bool, true, false, ltb, None, Some, IfSome}
+use Rattle.std.specs.declared.option.Option.{Option}
 use Rattle.format.specs.declared.reads.Read.{Read}
 use Rattle.format.specs.declared.reads.Reading.{Reading}
 use Rattle.format.specs.declared.reads.Reading.TheVariants.{Failed, Ended, Full, More}
 
--- A read as it is made: it asks for something, behind the bytes that are there and within the room; its answer is −1,
--- or how many bytes came, at most as many as were asked for.
+-- A read as it is made: it asks for something, behind the bytes that are there and within the room; its answer is none
+-- where it failed, or how many bytes came, at most as many as were asked for.
 pub record Made (room : ℕ) (read : Read) : Type 0 where
   pub something : 1 ≤ read.asked
   pub within : read.there + read.asked ≤ room
-  pub moved : Moved read.asked read.answer
+  pub moved : IfSome read.answer (λ n. n ≤ read.asked)
 
 -- bytes came, and n are there now: more may come as long as there is room
 abbrev pub room_for : Bool → ℕ → Reading
@@ -24,9 +24,9 @@ came_of room there zero = Ended
 came_of room there (suc k) = room_for (ltb (there + suc k) room) (there + suc k)
 
 -- by the answer
-abbrev pub answer_of : ℕ → ℕ → ℤ → Reading
-answer_of room there (negsuc k) = Failed
-answer_of room there (pos k) = came_of room there k
+abbrev pub answer_of : ℕ → ℕ → Option ℕ → Reading
+answer_of room there None = Failed
+answer_of room there (Some k) = came_of room there k
 
 -- what a read means for an input that goes into `room` bytes
 unfoldable pub reading_of : ℕ → Read → Reading

@@ -2,13 +2,15 @@
 ghost use Rattle.std.specs.Prelude.{◌≡◌, ◌+◌, ◌≤◌, length};
 ghost use Rattle.format.specs.Input.{Made, reading_of, count_of};
 
-// One read: how many bytes were there before it, how many it asked for, and what it answered. Its fields are open to
-// this file alone, so that every `Read` is one that `read_on` made.
+use std::io;
+
+// One read: how many bytes were there before it, how many it asked for, and how many it answered to have brought, none
+// where it failed. Its fields are open to this file alone, so that every `Read` is one that `read_on` made.
 #[derive(Clone, Copy)]
 pub struct Read {
     there: usize,
     asked: usize,
-    answer: isize,
+    answer: Option<usize>,
 }
 
 // What came of an input: how many bytes it counts as having, and of the read that ended it how many bytes were there
@@ -49,11 +51,9 @@ pub fn meaning(read: Read, room: usize) -> Reading
     requires { Made room read }
     ensures { result ≡ reading_of room read }
 {
-    let answer = read.answer;
-    if answer < 0 {
+    let Some(came) = read.answer else {
         return Reading::Failed;
-    }
-    let came = answer as usize;
+    };
     if came == 0 {
         return Reading::Ended;
     }
@@ -66,13 +66,16 @@ pub fn meaning(read: Read, room: usize) -> Reading
 }
 
 // Reads the next bytes behind those that are there.
-pub fn read_on(fd: i32, bytes: &mut [u8], there: usize, asked: usize) -> Read
+pub fn read_on<R: io::Read>(reader: &mut R, bytes: &mut [u8], there: usize, asked: usize) -> Read
     requires { (1 ≤ asked) × (there + asked ≤ length bytes.old) }
     ensures there_value { (result.there ≡ there) × (result.asked ≡ asked) × (Made (length bytes.new) result) }
     ensures bytes_len_unchanged { length bytes.new ≡ length bytes.old }
 {
     let end = there + asked;
-    let answer = libc::read(fd, &mut bytes[there..end]);
+    let answer = match reader.read(&mut bytes[there..end]) {
+        Ok(n) => Some(n),
+        Err(_) => None,
+    };
     Read {
         there: there,
         asked: asked,

@@ -1,5 +1,7 @@
 // The lines of a report in a lent buffer: each is put at a position, and the position behind it is answered. A caller
 // shows that there is room for the line.
+#![tactic(auto)]
+
 ghost use Rattle.std.specs.Prelude.{◌+◌, ◌*◌, ◌≤◌, length};
 ghost use Rattle.elements.specs.Element.{ELEMENT, elements_in};
 ghost use Rattle.format.specs.Text.{Appended};

@@ -1,5 +1,7 @@
 // Replays the Rust's stored answers: reads them from standard input, asks the calls again and compares every number.
 // crates/replay/README.md has the form of the file and how it was made.
+#![tactic(auto)]
+
 mod calls;
 mod cases;
 mod sizes;
@@ -7,7 +9,7 @@ mod sizes;
 ghost use Rattle.std.specs.Prelude.{◌/◌, ◌≤◌, ◌<◌, length};
 
 use crate::sizes::{ELEMENTS, FITS, FLOATS};
-use libc::STDIN_FILENO;
+use std::io;
 use stored::answer::{Answered, Ran, counted, counted_run};
 use stored::kept::put;
 use stored::tally::{PLACES, add};
@@ -155,8 +157,8 @@ fn next(
     bytes.len() / 4
 }
 
-// Keeps what the records put, and replays one after the other.
-fn replay(bytes: &[u8]) {
+// Keeps what the records put, replays one after the other, and tells what was counted.
+fn replay<W: io::Write>(out: &mut W, bytes: &[u8]) -> io::Result<()> {
     let mut iq = [0.0f32; FLOATS];
     let mut left = [0.0f32; FLOATS];
     let mut stored_elements = [0.0f64; ELEMENTS];
@@ -175,12 +177,12 @@ fn replay(bytes: &[u8]) {
             &mut tally,
         );
     }
-    told::all(&tally, bytes.len() % 4 == 0);
+    told::all(out, &tally, bytes.len() % 4 == 0)
 }
 
 // One byte more than the stored answers may have, so that too many are noticed: then the end is not read.
-fn main() {
+fn main(rt: HostRuntime) -> io::Result<()> {
     let mut bytes = [0u8; 1048577];
-    let n = io::read_full(STDIN_FILENO, &mut bytes);
-    replay(&bytes[..n]);
+    let n = format::read_full(&mut rt.stdin(), &mut bytes);
+    replay(&mut rt.stdout(), &bytes[..n])
 }

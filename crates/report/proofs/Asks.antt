@@ -24,7 +24,6 @@ use Rattle.fits.specs.List.{FIT}
 use Rattle.fits.specs.Estimate.{refined, strong_elements, strong_estimate}
 use Rattle.engine.specs.declared.run.RunFigures.{RunFigures}
 use Rattle.engine.specs.Run.{run_figures}
-use Rattle.cancel.specs.declared.running.RunAnswer.TheVariants.{Refused, Done}
 use Rattle.questions.specs.Answers.{refused, accepted, by_number}
 use Rattle.questions.specs.Refusals.{REFUSED_COUNT, REFUSED_SAMPLE}
 use Rattle.questions.specs.Questions.{ask, first_no, count_ok, carrier_ok, places_ok, work_ok, estimate_questions}

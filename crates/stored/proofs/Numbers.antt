@@ -1,5 +1,5 @@
 -- Two numbers that are the same, as `same` finds it out: by ==, which tells a NaN from itself.
-use Rattle.std.proofs.Common.{◌≡◌, ◌*◌, Bool, true, false, not, ◌&&◌, ◌||◌, sym, refl, ◌∙◌, eq-eqb}
+use Rattle.std.proofs.Common.{◌≡◌, ◌*◌, Bool, true, false, not, ◌||◌, sym, refl, ◌∙◌, eq-eqb}
 use mathlib.Core.Bool.{or-true, false≢true}
 use borrow.Author.Tests.{not-false}
 use lib.Ieee.{Float, nan, inf, fin, up, down, eq, ne, is_nan}

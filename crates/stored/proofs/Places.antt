@@ -1,5 +1,5 @@
 -- Where something is counted: at its own place where it has one, else as broken.
-use Rattle.std.proofs.Common.{◌≡◌, ℕ, ◌+◌, ◌<◌, ◌≤◌, ltb, arith, le-ltb, lt-ltb}
+use Rattle.std.proofs.Common.{◌≡◌, ℕ, ◌+◌, ◌<◌, ◌≤◌, le-ltb, lt-ltb}
 use mathlib.Core.Bool.{and-false}
 use Rattle.stored.specs.Tally.{PLACES, BROKEN, place_of}
 

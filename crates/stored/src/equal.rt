@@ -25,6 +25,7 @@ pub fn as_lent(row: &[f64], from: usize) -> bool
     true
 }
 
+#[tactic(auto, using(crate::proofs::Numbers::same_equal, crate::proofs::Numbers::same_other, crate::proofs::Numbers::same_nan))]
 fn same(a: f64, b: f64) -> bool
     ensures { result ≡ same_number a b }
 {

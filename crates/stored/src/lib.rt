@@ -1,5 +1,7 @@
 // What program replay does without asking a call: it reads the stored answers, compares numbers, counts and tells.
 // crates/replay/README.md has the form of the file.
+#![tactic(auto)]
+
 pub mod answer;
 pub mod asked;
 pub mod equal;

@@ -1,0 +1,13 @@
+-- `stored::units::of_pattern` meets its contract.
+use Rattle.std.proofs.Common.{rules}
+use lib.Ieee.{of_bits, div}
+use Rattle.stored.proofs.Patterns.{is_nan, is_number, is_infinity}
+use Rattle.stored.proofs.units.of_pattern.Goals.{then-exponent-eq2047+else-digits-ne0, else-exponent-eq2047}
+use Rattle.stored.proofs.units.of_pattern.Goals as goal
+
+pub returns-then-digits-ne0 : goal.returns-then-digits-ne0
+unfolding div of_bits
+returns-then-digits-ne0 c = is_nan c.args.bits c.if-exponent-eq2047.true c.if-digits-ne0.true
+
+pub float_from_bits-result : goal.float_from_bits-result
+float_from_bits-result c = elim c.if-exponent-eq2047.branch [ then-exponent-eq2047+else-digits-ne0 w ↦ search (rules, is_infinity) | else-exponent-eq2047 w ↦ search (rules, is_number) ]
