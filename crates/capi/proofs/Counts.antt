@@ -126,14 +126,14 @@ module _ (iq : List Float) (fs : Float) (q : Iq iq) (r : Rate fs) where
         (count_exact (evidence_check_of iq fs carrier fits elements).gap_blocks (omega arith), tt)
 
 -- of a recording that is lent nowhere, by its f32 count
-pub classes_counts : (iq-len : ℕ) (fs : Float) (elements : List Float) (element-count : ℕ) (fits : List Float) (fit_count : ℕ) → iq-len ≤ 2097152 →
-    let b = block_classes_of iq-len fs elements element-count fits fit_count in
+pub classes_counts : (iq_len : ℕ) (fs : Float) (elements : List Float) (element_count : ℕ) (fits : List Float) (fit_count : ℕ) → iq_len ≤ 2097152 →
+    let b = block_classes_of iq_len fs elements element_count fits fit_count in
     Counts (classes_figures b) 0 (b.blocks ∷ b.counts.edge ∷ b.counts.interior ∷ b.counts.gap ∷ b.counts.other ∷ [])
 unfolding block_classes_of
-classes_counts iq-len fs elements element-count fits fit_count short =
-    let b = block_classes_of iq-len fs elements element-count fits fit_count in
-    let all = blocks_counted (classes_given iq-len fs elements element-count fits fit_count) (blocks_in iq-len fs) in
-    let few = div-le_self (iq-len / 2) (window_of fs) in (
+classes_counts iq_len fs elements element_count fits fit_count short =
+    let b = block_classes_of iq_len fs elements element_count fits fit_count in
+    let all = blocks_counted (classes_given iq_len fs elements element_count fits fit_count) (blocks_in iq_len fs) in
+    let few = div-le_self (iq_len / 2) (window_of fs) in (
       count_exact b.blocks (omega arith),
       (count_exact b.counts.edge (omega arith), (count_exact b.counts.interior (omega arith), (count_exact b.counts.gap (omega arith), (count_exact b.counts.other (omega arith), tt)))),
     )

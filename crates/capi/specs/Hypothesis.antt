@@ -12,7 +12,7 @@ classify_called n figures = by_number n figures figures
 
 -- It refuses nothing. Of gap_blocks, hot_fraction, whether the offset is present, offset_hz and coherence.
 unfoldable pub classify_call : ℕ → Float → ℕ → Float → Float → Outcome (List Float) (List Float)
-classify_call gap-blocks hot present hz coherence =
+classify_call gap_blocks hot present hz coherence =
     accepted
     (hypothesis_figures
-    (hypothesis_of (record { gap_blocks = gap-blocks; hot_fraction = hot; offset_hz = given_offset present hz; coherence = coherence })))
+    (hypothesis_of (record { gap_blocks = gap_blocks; hot_fraction = hot; offset_hz = given_offset present hz; coherence = coherence })))

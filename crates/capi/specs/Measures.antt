@@ -19,8 +19,8 @@ abbrev pub residual_told : ResidualResult → Called (Unit {0})
 residual_told r = record { figures = residual_figures r.check; lists = tt; work = r.work }
 
 unfoldable pub residual_call : List Float → Float → Float → Float → List Float → ℕ → List Float → ℕ → List Float → List Float → Outcome (List Float × List Float) (Called (Unit {0}))
-residual_call iq fs hz step elements element-count fits fit_count work figures =
-    for_c residual_told figures (residual_rule iq fs hz step elements element-count fits fit_count work)
+residual_call iq fs hz step elements element_count fits fit_count work figures =
+    for_c residual_told figures (residual_rule iq fs hz step elements element_count fits fit_count work)
 
 -- ---- cancel_second_carrier_evidence
 
@@ -31,5 +31,5 @@ abbrev pub evidence_told : EvidenceResult → Called (Unit {0})
 evidence_told r = record { figures = evidence_figures r.evidence; lists = tt; work = r.work }
 
 unfoldable pub evidence_call : List Float → Float → Float → Float → List Float → ℕ → List Float → ℕ → List Float → List Float → Outcome (List Float × List Float) (Called (Unit {0}))
-evidence_call iq fs hz step elements element-count fits fit_count work figures =
-    for_c evidence_told figures (evidence_rule iq fs hz step elements element-count fits fit_count work)
+evidence_call iq fs hz step elements element_count fits fit_count work figures =
+    for_c evidence_told figures (evidence_rule iq fs hz step elements element_count fits fit_count work)

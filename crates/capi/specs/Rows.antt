@@ -33,5 +33,5 @@ abbrev pub classes_told : ClassesResult → Called (Handed Float)
 classes_told r = record { figures = classes_figures r.blocks; lists = r.classes; work = 0 }
 
 unfoldable pub classes_call : ℕ → Float → Float → Float → List Float → ℕ → List Float → ℕ → List Float → List Float → Outcome (List Float × List Float) (Called (Handed Float))
-classes_call iq-len fs hz step elements element-count fits fit_count classes figures =
-    for_c classes_told figures (classes_rule iq-len fs hz step elements element-count fits fit_count classes)
+classes_call iq_len fs hz step elements element_count fits fit_count classes figures =
+    for_c classes_told figures (classes_rule iq_len fs hz step elements element_count fits fit_count classes)

@@ -34,30 +34,30 @@ use Rattle.questions.proofs.FirstNo.{yes_at}
 use Rattle.questions.proofs.Given.{estimate_sized}
 use Rattle.questions.proofs.Calls.{accepted_by, refused_asked, never_refused}
 
-pub record ClassesAccepted (iq-len : ℕ) (fs : Float) (elements : List Float) (element-count : ℕ) (fits : List Float) (fit_count places : ℕ) : Type 0 where
+pub record ClassesAccepted (iq_len : ℕ) (fs : Float) (elements : List Float) (element_count : ℕ) (fits : List Float) (fit_count places : ℕ) : Type 0 where
   pub rate_ok_lem : Rate fs
-  pub short : iq-len / 2 ≤ 1048576
-  pub element_room : ELEMENT * element-count ≤ length elements
+  pub short : iq_len / 2 ≤ 1048576
+  pub element_room : ELEMENT * element_count ≤ length elements
   pub fit_room : FIT * fit_count ≤ length fits
-  pub room : blocks_in iq-len fs ≤ places
+  pub room : blocks_in iq_len fs ≤ places
 
 -- 2
 few_samples : (n : ℕ) → count_ok n ≡ true → n / 2 ≤ 1048576
 unfolding count_ok
 few_samples n h = let most = leb-true n 2097152 (and_right (eqb (n % 2) 0) (leb n 2097152) h) in omega arith
 
-pub classes_accepted : (iq-len : ℕ) (fs hz step : Float) (elements : List Float) (element-count : ℕ) (fits : List Float) (fit_count places : ℕ)
-    → first_no (classes_questions iq-len fs hz step elements element-count fits fit_count places) ≡ 0
-    → ClassesAccepted iq-len fs elements element-count fits fit_count places
-classes_accepted iq-len fs hz step elements element-count fits fit_count places all =
-    let yes = yes_at (classes_questions iq-len fs hz step elements element-count fits fit_count places) refl all in
-    let given = estimate_sized hz step elements element-count fits fit_count (yes 3) in
+pub classes_accepted : (iq_len : ℕ) (fs hz step : Float) (elements : List Float) (element_count : ℕ) (fits : List Float) (fit_count places : ℕ)
+    → first_no (classes_questions iq_len fs hz step elements element_count fits fit_count places) ≡ 0
+    → ClassesAccepted iq_len fs elements element_count fits fit_count places
+classes_accepted iq_len fs hz step elements element_count fits fit_count places all =
+    let yes = yes_at (classes_questions iq_len fs hz step elements element_count fits fit_count places) refl all in
+    let given = estimate_sized hz step elements element_count fits fit_count (yes 3) in
     record {
       rate_ok_lem = rate_is fs (yes 0);
-      short = few_samples iq-len (yes 1);
+      short = few_samples iq_len (yes 1);
       element_room = given.element_room;
       fit_room = given.fit_room;
-      room = leb-true (blocks_in iq-len fs) places (yes 2);
+      room = leb-true (blocks_in iq_len fs) places (yes 2);
     }
 
 -- ---- the list l, once its first part is back with the numbers of the classes
@@ -74,47 +74,47 @@ module _ (class : ℕ → BlockClass) (n blocks : ℕ) (l ys : List Float) (all 
       (rw whole at e) ∙ counts_hold class n _ (back blocks)
 
 -- the result that is then answered
-pub classes_made : (iq-len : ℕ) (fs : Float) (elements : List Float) (element-count : ℕ) (fits : List Float) (fit_count blocks : ℕ) (r : ClassCounts) (l ys : List Float)
-    → blocks ≡ blocks_in iq-len fs → ys ≡ codes_of (classes_given iq-len fs elements element-count fits fit_count) (blocks_in iq-len fs)
+pub classes_made : (iq_len : ℕ) (fs : Float) (elements : List Float) (element_count : ℕ) (fits : List Float) (fit_count blocks : ℕ) (r : ClassCounts) (l ys : List Float)
+    → blocks ≡ blocks_in iq_len fs → ys ≡ codes_of (classes_given iq_len fs elements element_count fits fit_count) (blocks_in iq_len fs)
     → r ≡ counts_in (take (blocks - 0) (drop 0 (put_mid 0 (blocks - 0) l ys))) → length ys ≡ length (mid_of 0 (blocks - 0) l)
     → ◌≡◌ {A = ClassesResult} (record { blocks = record { blocks = blocks; counts = r }; classes = handed_numbers (put_mid 0 (blocks - 0) l ys) blocks })
     (record {
-      blocks = block_classes_of iq-len fs elements element-count fits fit_count;
-      classes = handed 1 (codes_of (classes_given iq-len fs elements element-count fits fit_count) (blocks_in iq-len fs)) l;
+      blocks = block_classes_of iq_len fs elements element_count fits fit_count;
+      classes = handed 1 (codes_of (classes_given iq_len fs elements element_count fits fit_count) (blocks_in iq_len fs)) l;
     })
 unfolding block_classes_of
-classes_made iq-len fs elements element-count fits fit_count blocks r l ys all labelled counted size =
-    let class = classes_given iq-len fs elements element-count fits fit_count in
-    rw (classes_handed class (blocks_in iq-len fs) blocks l ys all labelled size, classes_counted class (blocks_in iq-len fs) blocks l ys all labelled r counted, all)
+classes_made iq_len fs elements element_count fits fit_count blocks r l ys all labelled counted size =
+    let class = classes_given iq_len fs elements element_count fits fit_count in
+    rw (classes_handed class (blocks_in iq_len fs) blocks l ys all labelled size, classes_counted class (blocks_in iq_len fs) blocks l ys all labelled r counted, all)
 
 -- ---- what its promise says of a refusal, and of an accepted call
 
-module _ (iq-len : ℕ) (fs hz step : Float) (elements : List Float) (element-count : ℕ) (fits : List Float) (fit_count : ℕ) (classes : List Float) where
-  pub classes_done : (r : ClassesResult) → accepted r ≡ classes_rule iq-len fs hz step elements element-count fits fit_count classes
-      → (r.blocks ≡ block_classes_of iq-len fs elements element-count fits fit_count)
-      × (r.classes ≡ handed 1 (codes_of (classes_given iq-len fs elements element-count fits fit_count) (blocks_in iq-len fs)) classes)
+module _ (iq_len : ℕ) (fs hz step : Float) (elements : List Float) (element_count : ℕ) (fits : List Float) (fit_count : ℕ) (classes : List Float) where
+  pub classes_done : (r : ClassesResult) → accepted r ≡ classes_rule iq_len fs hz step elements element_count fits fit_count classes
+      → (r.blocks ≡ block_classes_of iq_len fs elements element_count fits fit_count)
+      × (r.classes ≡ handed 1 (codes_of (classes_given iq_len fs elements element_count fits fit_count) (blocks_in iq_len fs)) classes)
   unfolding classes_rule
   classes_done r e =
       let told = accepted_by _ _ _ r e in
       (ap (λ (r : ClassesResult). r.blocks) told.1, ap (λ (r : ClassesResult). r.classes) told.1)
 
   -- how many blocks it counts
-  pub blocks_told : (r : ClassesResult) → accepted r ≡ classes_rule iq-len fs hz step elements element-count fits fit_count classes → r.blocks.blocks ≡ blocks_in iq-len fs
+  pub blocks_told : (r : ClassesResult) → accepted r ≡ classes_rule iq_len fs hz step elements element_count fits fit_count classes → r.blocks.blocks ≡ blocks_in iq_len fs
   unfolding block_classes_of
   blocks_told r e = ap (λ (b : BlockClasses). b.blocks) (classes_done r e).0
 
   -- its number is that of a question it asks, answered no
-  pub classes_number : (n : ℕ) (lent : List Float) → refused n lent ≡ classes_rule iq-len fs hz step elements element-count fits fit_count classes
-      → Memᴰ (ask n false) (classes_questions iq-len fs hz step elements element-count fits fit_count (length classes))
+  pub classes_number : (n : ℕ) (lent : List Float) → refused n lent ≡ classes_rule iq_len fs hz step elements element_count fits fit_count classes
+      → Memᴰ (ask n false) (classes_questions iq_len fs hz step elements element_count fits fit_count (length classes))
   unfolding classes_rule
   classes_number n lent e = refused_asked _ _ _ n lent e
 
   -- What 01 accepts is never refused: with a yes to each question, 1, 2, 5 and 7, the answer is Done, with the result
   -- of 01.
-  pub classes_accepts : rate_ok fs ≡ true → count_ok iq-len ≡ true → places_ok (blocks_in iq-len fs) (length classes) ≡ true
-      → estimate_ok hz step elements element-count fits fit_count ≡ true → (a : ClassesAnswer) (classes-after : List Float)
-      → classes_outcome a classes-after ≡ classes_rule iq-len fs hz step elements element-count fits fit_count classes
-      → a ≡ Done (block_classes_of iq-len fs elements element-count fits fit_count)
+  pub classes_accepts : rate_ok fs ≡ true → count_ok iq_len ≡ true → places_ok (blocks_in iq_len fs) (length classes) ≡ true
+      → estimate_ok hz step elements element_count fits fit_count ≡ true → (a : ClassesAnswer) (classes-after : List Float)
+      → classes_outcome a classes-after ≡ classes_rule iq_len fs hz step elements element_count fits fit_count classes
+      → a ≡ Done (block_classes_of iq_len fs elements element_count fits fit_count)
   unfolding classes_rule
   classes_accepts rate count places given (Refused n) classes-after e = absurd (never_refused _ _ _ n _ e (rate, (count, (places, (given, tt)))))
   classes_accepts rate count places given (Done b) classes-after e = ap Done (classes_done _ e).0

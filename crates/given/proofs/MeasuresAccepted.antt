@@ -28,20 +28,20 @@ use Rattle.questions.proofs.Given.{SizedEstimate, estimate_sized}
 use Rattle.questions.proofs.Accepted.{recording_is, work_room}
 use Rattle.questions.proofs.Calls.{accepted_by, refused_asked, never_refused}
 
-pub record MeasureAccepted (iq : List Float) (fs hz step : Float) (elements : List Float) (element-count : ℕ) (fits : List Float) (fit_count work : ℕ) : Type 0 where
+pub record MeasureAccepted (iq : List Float) (fs hz step : Float) (elements : List Float) (element_count : ℕ) (fits : List Float) (fit_count work : ℕ) : Type 0 where
   pub iq_ok : Iq iq
   pub rate_ok_lem : Rate fs
-  pub given : SizedEstimate hz step elements element-count fits fit_count
+  pub given : SizedEstimate hz step elements element_count fits fit_count
   pub room : 4 * step_blocks iq fs ≤ work
 
-pub measure_accepted : (iq : List Float) (fs hz step : Float) (elements : List Float) (element-count : ℕ) (fits : List Float) (fit_count work : ℕ)
-    → first_no (measure_questions iq fs hz step elements element-count fits fit_count work) ≡ 0 → MeasureAccepted iq fs hz step elements element-count fits fit_count work
-measure_accepted iq fs hz step elements element-count fits fit_count work all =
-    let yes = yes_at (measure_questions iq fs hz step elements element-count fits fit_count work) refl all in
+pub measure_accepted : (iq : List Float) (fs hz step : Float) (elements : List Float) (element_count : ℕ) (fits : List Float) (fit_count work : ℕ)
+    → first_no (measure_questions iq fs hz step elements element_count fits fit_count work) ≡ 0 → MeasureAccepted iq fs hz step elements element_count fits fit_count work
+measure_accepted iq fs hz step elements element_count fits fit_count work all =
+    let yes = yes_at (measure_questions iq fs hz step elements element_count fits fit_count work) refl all in
     record {
       iq_ok = recording_is iq (yes 1) (yes 2);
       rate_ok_lem = rate_is fs (yes 0);
-      given = estimate_sized hz step elements element-count fits fit_count (yes 4);
+      given = estimate_sized hz step elements element_count fits fit_count (yes 4);
       room = work_room (step_blocks iq fs) work (yes 3);
     }
 
@@ -51,19 +51,19 @@ measure_accepted iq fs hz step elements element-count fits fit_count work all =
 pub residual_result : (r s : ResidualCheck) (v w : ℕ) → r ≡ s → v ≡ w → ◌≡◌ {A = ResidualResult} (record { check = r; work = v }) (record { check = s; work = w })
 residual_result r s v w a b = rw (a, b)
 
-module _ (iq : List Float) (fs hz step : Float) (elements : List Float) (element-count : ℕ) (fits : List Float) (fit_count : ℕ) (work : List Float) where
+module _ (iq : List Float) (fs hz step : Float) (elements : List Float) (element_count : ℕ) (fits : List Float) (fit_count : ℕ) (work : List Float) where
   -- its number is that of a question it asks, answered no
-  pub residual_number : (n : ℕ) (lent : List Float) → refused n lent ≡ residual_rule iq fs hz step elements element-count fits fit_count work
-      → Memᴰ (ask n false) (measure_questions iq fs hz step elements element-count fits fit_count (length work))
+  pub residual_number : (n : ℕ) (lent : List Float) → refused n lent ≡ residual_rule iq fs hz step elements element_count fits fit_count work
+      → Memᴰ (ask n false) (measure_questions iq fs hz step elements element_count fits fit_count (length work))
   unfolding residual_rule
   residual_number n lent e = refused_asked _ _ _ n lent e
 
   -- What 01 accepts is never refused: with a yes to each question, 1, 2, 3, 6 and 7, the answer is Done, with the
   -- result of 01.
   pub residual_accepts : rate_ok fs ≡ true → count_ok (length iq) ≡ true → all_finite iq ≡ true → work_ok (step_blocks iq fs) (length work) ≡ true
-      → estimate_ok hz step elements element-count fits fit_count ≡ true → (a : ResidualAnswer) (work-after : List Float)
-      → residual_outcome a work-after ≡ residual_rule iq fs hz step elements element-count fits fit_count work
-      → a ≡ residual.Done (residual_check_of iq fs hz (fits_in fits fit_count) (elements_in elements element-count))
+      → estimate_ok hz step elements element_count fits fit_count ≡ true → (a : ResidualAnswer) (work-after : List Float)
+      → residual_outcome a work-after ≡ residual_rule iq fs hz step elements element_count fits fit_count work
+      → a ≡ residual.Done (residual_check_of iq fs hz (fits_in fits fit_count) (elements_in elements element_count))
   unfolding residual_rule
   residual_accepts rate count finite room given (residual.Refused n) work-after e = absurd (never_refused _ _ _ n _ e (rate, (count, (finite, (room, (given, tt))))))
   residual_accepts rate count finite room given (residual.Done r) work-after e = ap (λ (r : ResidualResult). residual.Done r.check) (accepted_by _ _ _ _ e).1
@@ -74,19 +74,19 @@ module _ (iq : List Float) (fs hz step : Float) (elements : List Float) (element
 pub evidence_result : (r s : SecondCarrierEvidence) (v w : ℕ) → r ≡ s → v ≡ w → ◌≡◌ {A = EvidenceResult} (record { evidence = r; work = v }) (record { evidence = s; work = w })
 evidence_result r s v w a b = rw (a, b)
 
-module _ (iq : List Float) (fs hz step : Float) (elements : List Float) (element-count : ℕ) (fits : List Float) (fit_count : ℕ) (work : List Float) where
+module _ (iq : List Float) (fs hz step : Float) (elements : List Float) (element_count : ℕ) (fits : List Float) (fit_count : ℕ) (work : List Float) where
   -- its number is that of a question it asks, answered no
-  pub evidence_number : (n : ℕ) (lent : List Float) → refused n lent ≡ evidence_rule iq fs hz step elements element-count fits fit_count work
-      → Memᴰ (ask n false) (measure_questions iq fs hz step elements element-count fits fit_count (length work))
+  pub evidence_number : (n : ℕ) (lent : List Float) → refused n lent ≡ evidence_rule iq fs hz step elements element_count fits fit_count work
+      → Memᴰ (ask n false) (measure_questions iq fs hz step elements element_count fits fit_count (length work))
   unfolding evidence_rule
   evidence_number n lent e = refused_asked _ _ _ n lent e
 
   -- What 01 accepts is never refused: with a yes to each question, 1, 2, 3, 6 and 7, the answer is Done, with the
   -- result of 01.
   pub evidence_accepts : rate_ok fs ≡ true → count_ok (length iq) ≡ true → all_finite iq ≡ true → work_ok (step_blocks iq fs) (length work) ≡ true
-      → estimate_ok hz step elements element-count fits fit_count ≡ true → (a : EvidenceAnswer) (work-after : List Float)
-      → evidence_outcome a work-after ≡ evidence_rule iq fs hz step elements element-count fits fit_count work
-      → a ≡ evidence.Done (evidence_check_of iq fs hz (fits_in fits fit_count) (elements_in elements element-count))
+      → estimate_ok hz step elements element_count fits fit_count ≡ true → (a : EvidenceAnswer) (work-after : List Float)
+      → evidence_outcome a work-after ≡ evidence_rule iq fs hz step elements element_count fits fit_count work
+      → a ≡ evidence.Done (evidence_check_of iq fs hz (fits_in fits fit_count) (elements_in elements element_count))
   unfolding evidence_rule
   evidence_accepts rate count finite room given (evidence.Refused n) work-after e = absurd (never_refused _ _ _ n _ e (rate, (count, (finite, (room, (given, tt))))))
   evidence_accepts rate count finite room given (evidence.Done r) work-after e = ap (λ (r : EvidenceResult). evidence.Done r.evidence) (accepted_by _ _ _ _ e).1

@@ -35,11 +35,11 @@ use Rattle.given.specs.Residual.{residual_rule, residual_outcome}
 use Rattle.given.specs.Evidence.{evidence_rule, evidence_outcome}
 use Rattle.given.proofs.MeasuresAccepted.{MeasureAccepted, measure_accepted}
 
-module _ (iq : List Float) (fs hz step : Float) (elements : List Float) (element-count : ℕ) (fits : List Float) (fit_count : ℕ) (work work-after : List Float)
+module _ (iq : List Float) (fs hz step : Float) (elements : List Float) (element_count : ℕ) (fits : List Float) (fit_count : ℕ) (work work-after : List Float)
     (singles : Singles iq) where
   -- the class of each block, and how many blocks there are
   abbrev class : ℕ → BlockClass
-  class = class_of fs (samples iq) (fits_in fits fit_count) (elements_in elements element-count)
+  class = class_of fs (samples iq) (fits_in fits fit_count) (elements_in elements element_count)
 
   abbrev block_count : ℕ
   block_count = blocks iq (window_of fs)
@@ -49,7 +49,7 @@ module _ (iq : List Float) (fs hz step : Float) (elements : List Float) (element
   left c = powers_of c class (residual_mean fs block_count (fits_in fits fit_count) (block_mean iq (hz ⊘ fs) (window_of fs))) block_count
 
   module _ (few : fit_count ≤ 2 ^ 40) where
-    left_plain : MeasureAccepted iq fs hz step elements element-count fits fit_count (length work) → (c : BlockClass) (i : ℕ) → i < length (left c) → Plain (get_or (left c) i nan)
+    left_plain : MeasureAccepted iq fs hz step elements element_count fits fit_count (length work) → (c : BlockClass) (i : ℕ) → i < length (left c) → Plain (get_or (left c) i nan)
     unfolding fits_in
     left_plain known c i h =
         let gains = gains_of fits fit_count (λ k b. gain_sized (fit_at fits k) (known.given.all_fits k b).gain_re (known.given.all_fits k b).gain_im) in
@@ -57,10 +57,10 @@ module _ (iq : List Float) (fs hz step : Float) (elements : List Float) (element
         amount_plain (get_or (left c) i nan)
         (left_powers iq fs (hz ⊘ fs) (fits_in fits fit_count) singles known.iq_ok known.rate_ok_lem gains (omega arith) class c i h)
 
-    pub residual_ranked : (r : ResidualCheck) → residual_outcome (residual.Done r) work-after ≡ residual_rule iq fs hz step elements element-count fits fit_count work
+    pub residual_ranked : (r : ResidualCheck) → residual_outcome (residual.Done r) work-after ≡ residual_rule iq fs hz step elements element_count fits fit_count work
         → (c : BlockClass) (i : ℕ) → i < length (left c) → Plain (get_or (left c) i nan)
     unfolding residual_rule
-    residual_ranked r promise = left_plain (measure_accepted iq fs hz step elements element-count fits fit_count (length work) (accepted_by _ _ _ _ promise).0)
+    residual_ranked r promise = left_plain (measure_accepted iq fs hz step elements element_count fits fit_count (length work) (accepted_by _ _ _ _ promise).0)
 
   -- ---- second_carrier_evidence: the gap blocks beside the carrier, and the interior blocks at it
   abbrev side : List Float
@@ -69,11 +69,11 @@ module _ (iq : List Float) (fs hz step : Float) (elements : List Float) (element
   abbrev interior : List Float
   interior = powers_of Interior class (mean_at iq fs hz) block_count
 
-  pub evidence_ranked : (r : SecondCarrierEvidence) → evidence_outcome (evidence.Done r) work-after ≡ evidence_rule iq fs hz step elements element-count fits fit_count work
+  pub evidence_ranked : (r : SecondCarrierEvidence) → evidence_outcome (evidence.Done r) work-after ≡ evidence_rule iq fs hz step elements element_count fits fit_count work
       → ((i : ℕ) → i < length side → Plain (get_or side i nan)) × ((i : ℕ) → i < length interior → Plain (get_or interior i nan))
   unfolding evidence_rule
   evidence_ranked r promise =
-      let known = measure_accepted iq fs hz step elements element-count fits fit_count (length work) (accepted_by _ _ _ _ promise).0 in (
+      let known = measure_accepted iq fs hz step elements element_count fits fit_count (length work) (accepted_by _ _ _ _ promise).0 in (
         λ i h. amount_plain (get_or side i nan) (every_at Amount side (side_amounts iq fs singles known.iq_ok (is_in Gap class) block_count (omega arith) hz) i h),
         λ i h. amount_plain (get_or interior i nan) (every_at Amount interior (powers_amounts iq fs singles known.iq_ok (is_in Interior class) block_count (omega arith) hz) i h),
       )

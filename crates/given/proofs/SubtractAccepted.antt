@@ -22,27 +22,27 @@ pub record SubtractAccepted (buf fits : List Float) (fit_count : ℕ) : Type 0 w
   pub short : length buf ≤ 2097152
   pub fit_room : FIT * fit_count ≤ length fits
 
-pub subtract_accepted : (buf : List Float) (fs hz step : Float) (elements : List Float) (element-count : ℕ) (fits : List Float) (fit_count : ℕ)
-    → first_no (subtract_questions buf fs hz step elements element-count fits fit_count) ≡ 0 → SubtractAccepted buf fits fit_count
-subtract_accepted buf fs hz step elements element-count fits fit_count all =
-    let yes = yes_at (subtract_questions buf fs hz step elements element-count fits fit_count) refl all in
+pub subtract_accepted : (buf : List Float) (fs hz step : Float) (elements : List Float) (element_count : ℕ) (fits : List Float) (fit_count : ℕ)
+    → first_no (subtract_questions buf fs hz step elements element_count fits fit_count) ≡ 0 → SubtractAccepted buf fits fit_count
+subtract_accepted buf fs hz step elements element_count fits fit_count all =
+    let yes = yes_at (subtract_questions buf fs hz step elements element_count fits fit_count) refl all in
     record {
       short = (recording_is buf (yes 1) (yes 2)).short;
-      fit_room = (estimate_sized hz step elements element-count fits fit_count (yes 3)).fit_room;
+      fit_room = (estimate_sized hz step elements element_count fits fit_count (yes 3)).fit_room;
     }
 
 -- ---- what its promise says of a refusal, and of an accepted call
 
-module _ (buf : List Float) (fs hz step : Float) (elements : List Float) (element-count : ℕ) (fits : List Float) (fit_count : ℕ) where
+module _ (buf : List Float) (fs hz step : Float) (elements : List Float) (element_count : ℕ) (fits : List Float) (fit_count : ℕ) where
   -- its number is that of a question it asks, answered no
-  pub subtract_number : (n : ℕ) (lent : List Float) → refused n lent ≡ subtract_rule buf fs hz step elements element-count fits fit_count
-      → Memᴰ (ask n false) (subtract_questions buf fs hz step elements element-count fits fit_count)
+  pub subtract_number : (n : ℕ) (lent : List Float) → refused n lent ≡ subtract_rule buf fs hz step elements element_count fits fit_count
+      → Memᴰ (ask n false) (subtract_questions buf fs hz step elements element_count fits fit_count)
   unfolding subtract_rule
   subtract_number n lent e = refused_asked _ _ _ n lent e
 
   -- What 01 accepts is never refused: with a yes to each question, 1, 2, 3 and 7, the answer is Done.
-  pub subtract_accepts : rate_ok fs ≡ true → count_ok (length buf) ≡ true → all_finite buf ≡ true → estimate_ok hz step elements element-count fits fit_count ≡ true
-      → (a : SubtractAnswer) (buffer-after : List Float) → subtract_outcome a buffer-after ≡ subtract_rule buf fs hz step elements element-count fits fit_count
+  pub subtract_accepts : rate_ok fs ≡ true → count_ok (length buf) ≡ true → all_finite buf ≡ true → estimate_ok hz step elements element_count fits fit_count ≡ true
+      → (a : SubtractAnswer) (buffer-after : List Float) → subtract_outcome a buffer-after ≡ subtract_rule buf fs hz step elements element_count fits fit_count
       → a ≡ Done
   unfolding subtract_rule
   subtract_accepts rate count finite given (Refused n) buffer-after e = absurd (never_refused _ _ _ n _ e (rate, (count, (finite, (given, tt)))))

@@ -16,14 +16,14 @@ use Rattle.questions.specs.Questions.{Asked, ask, count_ok, places_ok, estimate_
 
 -- blocks of a recording that is lent nowhere, by its f32 count alone: n is half of it
 abbrev pub blocks_in : ℕ → Float → ℕ
-blocks_in iq-len fs = blocks_of fs (iq-len / 2)
+blocks_in iq_len fs = blocks_of fs (iq_len / 2)
 
 -- It asks 1, 2, 5 and 7: of the rate, the f32 count, the list and the given estimate. A place of the list to be filled
 -- is one number, and it needs one per block.
 abbrev pub classes_questions : ℕ → Float → Float → Float → List Float → ℕ → List Float → ℕ → ℕ → List Asked
-classes_questions iq-len fs hz step elements element-count fits fit_count places =
-    ask REFUSED_RATE (rate_ok fs) ∷ ask REFUSED_COUNT (count_ok iq-len) ∷ ask REFUSED_PLACES (places_ok (blocks_in iq-len fs) places)
-    ∷ ask REFUSED_GIVEN (estimate_ok hz step elements element-count fits fit_count) ∷ []
+classes_questions iq_len fs hz step elements element_count fits fit_count places =
+    ask REFUSED_RATE (rate_ok fs) ∷ ask REFUSED_COUNT (count_ok iq_len) ∷ ask REFUSED_PLACES (places_ok (blocks_in iq_len fs) places)
+    ∷ ask REFUSED_GIVEN (estimate_ok hz step elements element_count fits fit_count) ∷ []
 
 -- The number of blocks and how many have each class, and the numbers of the classes that the list hands out.
 pub record ClassesResult : Type 0 where
@@ -37,21 +37,21 @@ classes_outcome (Done b) classes = accepted (record { blocks = b; classes = hand
 
 -- the class of each block, by the given elements and fits; the carrier and the carrier step have no part in it
 abbrev pub classes_given : ℕ → Float → List Float → ℕ → List Float → ℕ → ℕ → BlockClass
-classes_given iq-len fs elements element-count fits fit_count =
-    class_of fs (iq-len / 2) (fits_in fits fit_count) (elements_in elements element-count)
+classes_given iq_len fs elements element_count fits fit_count =
+    class_of fs (iq_len / 2) (fits_in fits fit_count) (elements_in elements element_count)
 
 -- how many blocks there are, and how many have each class
 unfoldable pub block_classes_of : ℕ → Float → List Float → ℕ → List Float → ℕ → BlockClasses
-block_classes_of iq-len fs elements element-count fits fit_count =
-    record { blocks = blocks_in iq-len fs; counts = counts_of (classes_given iq-len fs elements element-count fits fit_count) (blocks_in iq-len fs) }
+block_classes_of iq_len fs elements element_count fits fit_count =
+    record { blocks = blocks_in iq_len fs; counts = counts_of (classes_given iq_len fs elements element_count fits fit_count) (blocks_in iq_len fs) }
 
 -- The first no is the result, and nothing is written; else the counts, and in the list each block's class by its
 -- number.
 unfoldable pub classes_rule : ℕ → Float → Float → Float → List Float → ℕ → List Float → ℕ → List Float → Outcome (List Float) ClassesResult
-classes_rule iq-len fs hz step elements element-count fits fit_count classes =
-    by_questions (classes_questions iq-len fs hz step elements element-count fits fit_count (length classes))
+classes_rule iq_len fs hz step elements element_count fits fit_count classes =
+    by_questions (classes_questions iq_len fs hz step elements element_count fits fit_count (length classes))
     (record {
-      blocks = block_classes_of iq-len fs elements element-count fits fit_count;
-      classes = handed 1 (codes_of (classes_given iq-len fs elements element-count fits fit_count) (blocks_in iq-len fs)) classes;
+      blocks = block_classes_of iq_len fs elements element_count fits fit_count;
+      classes = handed 1 (codes_of (classes_given iq_len fs elements element_count fits fit_count) (blocks_in iq_len fs)) classes;
     })
     classes

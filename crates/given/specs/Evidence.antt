@@ -23,7 +23,7 @@ evidence_outcome (Done r) work = accepted (record { evidence = r; work = length 
 -- The first no is the result, and nothing is written; else the evidence of a second carrier, at the estimate's
 -- carrier, elements and fits. The carrier step is asked about and has no part in it.
 unfoldable pub evidence_rule : List Float → Float → Float → Float → List Float → ℕ → List Float → ℕ → List Float → Outcome (List Float) EvidenceResult
-evidence_rule iq fs hz step elements element-count fits fit_count work =
-    by_questions (measure_questions iq fs hz step elements element-count fits fit_count (length work))
-    (record { evidence = evidence_check_of iq fs hz (fits_in fits fit_count) (elements_in elements element-count); work = length work })
+evidence_rule iq fs hz step elements element_count fits fit_count work =
+    by_questions (measure_questions iq fs hz step elements element_count fits fit_count (length work))
+    (record { evidence = evidence_check_of iq fs hz (fits_in fits fit_count) (elements_in elements element_count); work = length work })
     work

@@ -11,8 +11,8 @@ use Rattle.questions.specs.Questions.{Asked, ask, recording_questions, estimate_
 
 -- It asks 1, 2, 3 and 7: of the buffer and the given estimate.
 abbrev pub subtract_questions : List Float → Float → Float → Float → List Float → ℕ → List Float → ℕ → List Asked
-subtract_questions buf fs hz step elements element-count fits fit_count =
-    recording_questions buf fs ++ (ask REFUSED_GIVEN (estimate_ok hz step elements element-count fits fit_count) ∷ [])
+subtract_questions buf fs hz step elements element_count fits fit_count =
+    recording_questions buf fs ++ (ask REFUSED_GIVEN (estimate_ok hz step elements element_count fits fit_count) ∷ [])
 
 -- the number of a refusal, and what the lent buffer then holds
 abbrev pub subtract_outcome : SubtractAnswer → List Float → Outcome (List Float) (List Float)
@@ -22,6 +22,6 @@ subtract_outcome Done buf = accepted buf
 -- The first no is the result, and nothing is written; else the buffer holds what the fits, in order, leave of it. The
 -- carrier step and the elements are asked about and have no part in it.
 unfoldable pub subtract_rule : List Float → Float → Float → Float → List Float → ℕ → List Float → ℕ → Outcome (List Float) (List Float)
-subtract_rule buf fs hz step elements element-count fits fit_count =
-    by_questions (subtract_questions buf fs hz step elements element-count fits fit_count) (subtracted fs (hz ⊘ fs) buf (fits_in fits fit_count))
+subtract_rule buf fs hz step elements element_count fits fit_count =
+    by_questions (subtract_questions buf fs hz step elements element_count fits fit_count) (subtracted fs (hz ⊘ fs) buf (fits_in fits fit_count))
     buf

@@ -129,27 +129,27 @@ pub fits_fit : (l : List Float) (count : ℕ) → fits_ok l count ≡ true → F
 fits_fit l count h = let most = all_fit fit_ok _ (length l / FIT) count h in omega arith
 
 -- an estimate that is accepted
-pub record SizedEstimate (carrier step : Float) (elements : List Float) (element-count : ℕ) (fits : List Float) (fit_count : ℕ) : Type 0 where
+pub record SizedEstimate (carrier step : Float) (elements : List Float) (element_count : ℕ) (fits : List Float) (fit_count : ℕ) : Type 0 where
   pub carrier_sized : T (sized carrier)
   pub step_sized : T (sized step)
-  pub all_elements : AllTimed elements element-count
-  pub element_room : ELEMENT * element-count ≤ length elements
+  pub all_elements : AllTimed elements element_count
+  pub element_room : ELEMENT * element_count ≤ length elements
   pub all_fits : (k : ℕ) → k < fit_count → SizedFit (fit_at fits k)
   pub fit_room : FIT * fit_count ≤ length fits
 
-pub estimate_sized : (carrier step : Float) (elements : List Float) (element-count : ℕ) (fits : List Float) (fit_count : ℕ)
-    → estimate_ok carrier step elements element-count fits fit_count ≡ true → SizedEstimate carrier step elements element-count fits fit_count
+pub estimate_sized : (carrier step : Float) (elements : List Float) (element_count : ℕ) (fits : List Float) (fit_count : ℕ)
+    → estimate_ok carrier step elements element_count fits fit_count ≡ true → SizedEstimate carrier step elements element_count fits fit_count
 unfolding estimate_ok
-estimate_sized carrier step elements element-count fits fit_count h =
+estimate_sized carrier step elements element_count fits fit_count h =
     let third = and_left _ (fits_ok fits fit_count) h in
-    let second = and_left _ (elements_ok elements element-count) third in
+    let second = and_left _ (elements_ok elements element_count) third in
     let of-elements = and_right (size_ok carrier && size_ok step) _ third in
-    let of-fits = and_right (size_ok carrier && size_ok step && elements_ok elements element-count) _ h in
+    let of-fits = and_right (size_ok carrier && size_ok step && elements_ok elements element_count) _ h in
     record {
       carrier_sized = size_says carrier (and_left _ (size_ok step) second);
       step_sized = size_says step (and_right (size_ok carrier) _ second);
-      all_elements = all_timed elements element-count of-elements;
-      element_room = elements_fit elements element-count of-elements;
+      all_elements = all_timed elements element_count of-elements;
+      element_room = elements_fit elements element_count of-elements;
       all_fits = λ k b. fit_sized fits fit_count k of-fits b;
       fit_room = fits_fit fits fit_count of-fits;
     }

@@ -79,8 +79,8 @@ fits_ok l count = all_ok fit_ok (fit_at l) (length l / FIT) count
 
 -- Are those of a given estimate: its carrier and carrier step, its elements and its fits?
 unfoldable pub estimate_ok : Float → Float → List Float → ℕ → List Float → ℕ → Bool
-estimate_ok carrier step elements element-count fits fit_count =
-    size_ok carrier && size_ok step && elements_ok elements element-count && fits_ok fits fit_count
+estimate_ok carrier step elements element_count fits fit_count =
+    size_ok carrier && size_ok step && elements_ok elements element_count && fits_ok fits fit_count
 
 -- ---- what more than one call asks
 
@@ -95,6 +95,6 @@ estimate_questions iq fs hint elements fits work =
 -- `residual_check` and `second_carrier_evidence` ask 1, 2, 3, 6 and 7: of the recording, the work slice and the given
 -- estimate.
 abbrev pub measure_questions : List Float → Float → Float → Float → List Float → ℕ → List Float → ℕ → ℕ → List Asked
-measure_questions iq fs hz step elements element-count fits fit_count work =
+measure_questions iq fs hz step elements element_count fits fit_count work =
     recording_questions iq fs
-    ++ (ask REFUSED_WORK (work_ok (step_blocks iq fs) work) ∷ ask REFUSED_GIVEN (estimate_ok hz step elements element-count fits fit_count) ∷ [])
+    ++ (ask REFUSED_WORK (work_ok (step_blocks iq fs) work) ∷ ask REFUSED_GIVEN (estimate_ok hz step elements element_count fits fit_count) ∷ [])
