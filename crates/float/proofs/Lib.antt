@@ -61,3 +61,5 @@ pub mod Amounts
 pub mod Unrounded
 pub mod Ties
 pub mod Rounding
+pub mod Modulo
+pub mod Divided

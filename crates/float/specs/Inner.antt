@@ -35,3 +35,13 @@ pub record Scaled (n m e : ℕ) : Type 0 where
   pub most : m < 2 ^ 53
   pub floor : 1022 ≤ e
   pub ceil : e ≤ 3119
+
+-- ---- a % b
+
+-- a bit pattern with the sign clear, below the infinity's, stands for m * 2 ^ e smallest values; m has 53 digits where e
+-- is above 0
+pub record InUnits (b m e : ℕ) : Type 0 where
+  pub value : m * 2 ^ e ≡ counted b
+  pub most : m < 2 ^ 53
+  pub least : 0 < e → 2 ^ 52 ≤ m
+  pub ceil : e ≤ 2045
