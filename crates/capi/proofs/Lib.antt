@@ -9,7 +9,7 @@
 -- FoundForC   a find or an estimate that returns 0 to C is an accepted one: `find_for_c`, `estimate_for_c`
 -- RunForC     a run that returns 0 to C is an accepted run: `run_for_c`
 -- Counts      counts among the figures are below 2^53 and exact: `count_exact`; of each call: `find_counts`,
---             `fit_counts`, `estimate_counts`, `row_Counts`, `classes_counts`, `residual_counts`, `evidence_counts`
+--             `fit_counts`, `estimate_counts`, `row_counts`, `classes_counts`, `residual_counts`, `evidence_counts`
 -- RunCounts   of a run: `run_counts`, `c_counts`; the balances of what C reads: `c_key_downs_balance`,
 --             `c_listed_balance`, `c_blocks_balance`
 pub mod Ways

@@ -8,13 +8,13 @@
 -- KeyDowns    which pairs `row_key_downs` has: `key_down_is`; their order: `in_order`; `listed_is`, `places`
 -- Same        rows that agree have the same key-downs, counts and elements
 -- Centres     the centre of a window is a number of halves: `centre_is`; a crossing lies between two of them:
---             `crossed_between`; two values that lie one behind the other: `between_lt`, `Between-le`
+--             `crossed_between`; two values that lie one behind the other: `between_lt`, `between_le`
 -- Bounds      the numbers of every element found are finite: `found_bounded`; `threshold_amount`, `recorded_is`,
 --             `some_row`
 -- Recording   counts of a recording: `key_downs_counted`, `listed_counted`, `all_counted`; `enough_places`
 -- Exactly     what is found and handed out: the long key-downs, each once, in order, and nothing else: `found_exactly`,
 --             `handed_exactly`; counted are all key-downs of the row: `counted_exactly`; without a threshold nothing:
---             `Found-Nothing`, `handed_nothing`, `counted_nothing`
+--             `found_nothing`, `handed_nothing`, `counted_nothing`
 -- Times       the times of every element found lie between centres and are in order: `found_placed`, `found_in_time`;
 --             `before_exactly`; of what a list hands out: `handed_placed`, `handed_in_time`
 -- Ways        the ways out of `find_elements`

@@ -10,7 +10,7 @@
 --             `over_zero`, `not_under`
 -- Ordered     the cast keeps the order, for all floats: `unsigned_mono`; a difference above zero has its operands in
 --             order: `sub_above`; `quotient_mono`
--- Counts      whole numbers as floats: `whole_value`, `Whole-back`, `Whole-le`, `whole_add`, `whole_sub`, `whole_mul`
+-- Counts      whole numbers as floats: `whole_value`, `whole_back`, `whole_le`, `whole_add`, `whole_sub`, `whole_mul`
 -- Signs       the sign of a result, and that it is no NaN: `round_signed`, `add_signed`, `square_signed`
 -- Monotone    `neg_le`, `lt_le`, `not_lt_le`, `le_through`, `signed_le`; `ceil_mono`, `round_mono`
 -- Within      how large a result can be, so that it is finite: `add_within`, `sub_within`, `mul_within`; `le_within`,
@@ -23,6 +23,8 @@
 -- Intervals   from tests on floats to bounds on whole numbers: `interval_is`, `floor_upto`, `ceil_upto`, `upto_back`
 -- Picks, Cuts, Wholes     floor, ceil, round by the whole number next to x
 -- Remainders  `rem_small`, and what `rem_one` does in place of `%`
+-- Modulo, Divided     a % b by whole numbers: `mod_scale`, `rem_values`, `rem_units`; by |a| and |b|: `divided`,
+--             `sign_plus`, `sign_minus`; `mul_values`
 -- Patterns, Narrowing     bit patterns, and the f32 nearest to an f64
 -- Squares, Roots, Value, Meaning     the square root; `sqrt_nearest`: of each value above zero, no other value of the
 --             format is as near to it; `nearest_unique`; `in_units`: a finite value is a number of units

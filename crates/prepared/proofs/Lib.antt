@@ -6,7 +6,7 @@
 -- Gathered  the loop that gathers: `gather_yes`, `gather_no`, `gather_done`; what the slice holds then: `gathered`,
 --           `gathered_below`, `level_is`, `powers_same`; a prepared slice: `class_prepared`,
 --           `prepared_kept`
--- Less      fits taken off the means, by samples, by blocks, and one after the other: `less_from_turn`, `Turned-turn`,
+-- Less      fits taken off the means, by samples, by blocks, and one after the other: `less_from_turn`, `turned_turn`,
 --           `fits_turn`, `lessened`
 -- Sampled   what the Rust leaves, sample by sample, is what the definition leaves, block by block: `as_sampled`
 pub mod Parts

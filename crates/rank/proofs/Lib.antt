@@ -3,7 +3,7 @@
 -- Patterns    the order of values is that of their bit patterns: `lt_pattern`, `eq_pattern`, `zero_pattern`
 -- Ordinals    ordinals are in `total_cmp` order: `precedes_ordinal`; each gives its value back: `value_ordinal`,
 --             `ordinal_injective`
--- Counted     cells of ordinals and their histogram: `Below-next`, `Below-split`, `cell_split`, `histogram_turn`,
+-- Counted     cells of ordinals and their histogram: `below_next`, `below_split`, `cell_split`, `histogram_turn`,
 --             `histogram_sum`; one digit more: `next_digit`, `within_turn`; the one that is left: `within_one`
 -- Narrowed    a cell narrowed to the ends of its ordinals has the same ordinals: `narrowed`; a rank in it stays:
 --             `rank_narrowed`; the ends, ordinal by ordinal: `between_none`, `between_turn`

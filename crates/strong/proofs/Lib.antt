@@ -4,7 +4,7 @@
 --             of each call: what it goes on with, `find_accepted`; its result by its parts, `find_result`; what its
 --             promise says, by the laws of questions Calls: `find_done`; a refusal's number is that of a question it
 --             asks: `find_number`; with a yes to each it is done: `find_accepts`
--- Handed      theorems on what an accepted call hands out, in 01's terms: `row_told`, `row_at`, `row_found`,
+-- Handed      theorems on what an accepted call hands out, in 01's terms: `row_told_lem`, `row_at`, `row_found`,
 --             `row_elements`; `find_exactly`, `find_counted`,
 --             `find_nothing`; `fit_elements_are`, `fit_each`, `fit_skipped`; `estimate_exactly`, `estimate_counted`,
 --             `estimate_nothing`,

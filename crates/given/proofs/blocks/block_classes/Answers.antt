@@ -25,7 +25,7 @@ returns-then-no-ne0 c = refuses _ _ _ _ c.classes_no-no.ensures c.if-no-ne0.true
 pub classify_blocks-requires : goal.classify_blocks-requires
 classify_blocks-requires c =
     let h = known c.before.before in
-    record { rate = h.rate_ok_lem; n_bound = h.short; element_count_in_bounds = h.element_room; fit_count_in_bounds = h.fit_room; class_len = simp length-take (omega (arith, h.room, c.window_blocks-blocks.ensures)) }
+    record { rate = h.rate_ok_lem; n_bound = omega (arith, h.short); element_count_in_bounds = h.element_room; fit_count_in_bounds = h.fit_room; class_len = simp length-take (omega (arith, h.room, c.window_blocks-blocks.ensures)) }
 
 pub returns : goal.returns
 unfolding classes_rule

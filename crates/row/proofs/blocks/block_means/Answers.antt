@@ -11,15 +11,15 @@ mean_from-m-requires c =
     let p = c.requires in
     record { iq = p.iq; sine_value = p.sine_value; len_in_bounds = start_within _ _ _ _ c.loop-b.invariant.1 c.loop-b-test.true }
 
-pub overflow_add-from : goal.overflow_add-from
-overflow_add-from c =
-    raised_fits _ _ _ _ c.loop-b.invariant.1 c.loop-b-test.true c.requires.iq.short
-
 pub loop-b-preserved : goal.loop-b-preserved
 loop-b-preserved c =
     let inv = c.loop-b.invariant in
     let mean = block_mean_is _ _ _ _ _ _ inv.1 c.mean_from-m.ensures in
     (search rules, start_next _ _ _ _ inv.1 refl, search rules, z_fill_turn0 _ _ _ _ _ _ inv.3 mean c.put.ensures)
+
+pub overflow_add-from : goal.overflow_add-from
+overflow_add-from c =
+    raised_fits _ _ _ _ c.loop-b.invariant.1 c.loop-b-test.true c.requires.iq.short
 
 pub returns-then-cyc : goal.returns-then-cyc
 returns-then-cyc c =

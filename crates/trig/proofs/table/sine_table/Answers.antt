@@ -8,13 +8,13 @@ use Rattle.trig.specs.Circle.{entry_of}
 use Rattle.trig.proofs.Rules.{sine_small, sines_stored}
 use Rattle.trig.proofs.table.sine_table.Goals as goal
 
-pub exact-requires : goal.exact-requires
-unfolding sine_table
-exact-requires c = sine_small c.loop-k.k (search rules)
-
 pub loop-k-preserved : goal.loop-k-preserved
 unfolding sine_table of_bits of_int
 loop-k-preserved c = (search rules, fill_turn0 _ entry_of _ _ _ c.loop-k.invariant.1 (rw c.exact.ensures))
+
+pub exact-requires : goal.exact-requires
+unfolding sine_table
+exact-requires c = sine_small c.loop-k.k (search rules)
 
 pub returns : goal.returns
 returns c = fill_done _ 0 entry_of 1025 _ _ c.loop-k.invariant.1 (search rules) (search rules) ∙ sines_stored _ (search rules)
