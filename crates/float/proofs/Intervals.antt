@@ -1,5 +1,5 @@
 -- From tests on floats to bounds on whole numbers. With lo = ceil(x), hi = floor(y), once `lo < 0`, `hi > n` and `hi
--- - lo < m` have all failed: `interval-is` says for finite x and y that lo and hi are whole numbers (`Upto`), at most
+-- - lo < m` have all failed: `interval_is` says for finite x and y that lo and hi are whole numbers (`Upto`), at most
 -- n and at least m apart. `upto_back`: what such a whole number is. Assumes nothing.
 use Rattle.std.proofs.Common.{◌≡◌, ℕ, suc, ◌+◌, ◌-◌, ◌*◌, ◌^◌, ◌<◌, ◌≤◌, Bool, true, false, cond, not, ◌&&◌, T, ltb, leb, pos, sym, refl, ap, ◌∙◌, subst, true≢false, zero-le, le_trans, le_of_eq, le_of_suc-le-suc, le_of_lt, lt_irrefl, mul-pos, lt_of_not-le, zero-mul, mul-one, not-le_of_lt, div-one, arith, lit<, ltb→lt, leb→le}
 use mathlib.Core.Bool.{beq}

@@ -1,7 +1,7 @@
 -- The four operations on values that are known as fractions (`HasValue x s a c`: x is ± a / c): `add_over`,
 -- `sub_over` turn them into `sum` of the numerators over the one denominator, and `sum_plus`, `sum_less`, `sum_more`
 -- say what that is; `mul_over`, `div_over`.
--- Where a value stands to zero: `under_zero`, `over_zero`, `not_under`, `not-over`. Over any format. Assumes nothing.
+-- Where a value stands to zero: `under_zero`, `over_zero`, `not_under`, `not_over_minus`. Over any format. Assumes nothing.
 use Rattle.std.proofs.Common.{◌≡◌, ℕ, zero, suc, ◌+◌, ◌-◌, ◌*◌, ◌<◌, ◌≤◌, Bool, true, false, cond, not, ◌&&◌, T, eqb, ltb, sym, refl, ap, ◌∙◌, subst, true≢false, le_of_eq, lt_of_lt_of_le, lt_of_le_of_lt, lt_irrefl, zero-lt-suc, mul_assoc, mul_comm, lt_of_mul-lt-mul_right, mul-lt-mul_of_pos_right, mul-pos, lt_of_not-le, zero-mul, mul-one, mul_right_comm, not-le_of_lt, arith, ltb→lt, lt→ltb}
 use native.Mathlib.Nat.{mul-mul-mul_comm, mul-sub, eq_of_mul-eq-mul_right}
 use mathlib.Core.Bool.{beq}
