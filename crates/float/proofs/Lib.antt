@@ -23,8 +23,8 @@
 -- Intervals   from tests on floats to bounds on whole numbers: `interval_is`, `floor_upto`, `ceil_upto`, `upto_back`
 -- Picks, Cuts, Wholes     floor, ceil, round by the whole number next to x
 -- Remainders  `rem_small`, and what `rem_one` does in place of `%`
--- Modulo, Divided     a % b by whole numbers: `mod_scale`, `rem_values`, `rem_units`; by |a| and |b|: `divided`,
---             `sign_plus`, `sign_minus`; `mul_values`
+-- Modulo, Divided     a % b by whole numbers: `mod_scale`, `rem_values`, `rem_units`; what a bit pattern
+--             counts: `counted_low`, `counted_high`; by |a| and |b|: `divided`, `sign_plus`, `sign_minus`
 -- Patterns, Narrowing     bit patterns, and the f32 nearest to an f64
 -- Squares, Roots, Value, Meaning     the square root; `sqrt_nearest`: of each value above zero, no other value of the
 --             format is as near to it; `nearest_unique`; `in_units`: a finite value is a number of units

@@ -1,6 +1,6 @@
 -- a % b by whole numbers of smallest values (`rem_units`), of bit patterns with the sign clear; the sign of a goes through
 -- (`sign_plus`, `sign_minus`), and what is no number (`not_finite`, `no_divisor`). Assumes nothing.
-use Rattle.std.proofs.Common.{◌≡◌, ℕ, zero, suc, ◌+◌, ◌-◌, ◌*◌, ◌/◌, ◌%◌, ◌^◌, ◌<◌, ◌≤◌, Bool, true, false, cond, pos, sym, ap, ◌∙◌, subst, true≢false, lt_of_lt_of_le, lt_irrefl, mod-lt, zero-lt-suc, mul_assoc, mul_comm, mul_right_comm, mul-pos, one-mul, mul-one, zero-mul, mul-le-mul_right, mul-lt-mul_of_pos_right, mul-div_cancel, arith, pow_pos, pow_mono, pow-add}
+use Rattle.std.proofs.Common.{◌≡◌, ℕ, zero, suc, ◌+◌, ◌-◌, ◌*◌, ◌/◌, ◌%◌, ◌^◌, ◌<◌, ◌≤◌, Bool, false, cond, pos, sym, ap, ◌∙◌, subst, lt_of_lt_of_le, lt_irrefl, mod-lt, zero-lt-suc, mul_assoc, mul_comm, mul_right_comm, mul-pos, one-mul, mul-one, zero-mul, mul-le-mul_right, mul-lt-mul_of_pos_right, mul-div_cancel, arith, pow_pos, pow_mono, pow-add}
 use Rattle.std.proofs.lemmas.Nat.{mul-mod_first}
 use native.Mathlib.Nat.{mul-mod_left}
 use native.Mathlib.Decide.{dec_le}
@@ -11,7 +11,7 @@ use lib.Ieee.Exact.{HasValue}
 use lib.Ieee.Fits.{up_pos, down_pos}
 use lib.Ieee.Scale.{round_same}
 use Rattle.float.specs.Inner.{counted, InUnits}
-use Rattle.float.proofs.Sums.{cond_nil, some_digits}
+use Rattle.float.proofs.Sums.{cond_nil, some_digits, mul_over}
 use Rattle.float.proofs.Value.{counted_value}
 use Rattle.float.proofs.Counts.{whole_value}
 
@@ -32,7 +32,7 @@ eleven r n left h =
     back : 11 + (left - 11) ≡ left
     back = omega arith
 
--- ---- a % b of two values, and a product, as fractions
+-- ---- a % b of two values, as fractions
 crossed : (x y de dd a b c : ℕ) → x * c ≡ a * de → y * c ≡ b * dd → 0 < b → 0 < de → 0 < dd → 0 < c → 0 < y * de → x * dd % (y * de) * c ≡ (a % b) * (de * dd)
 crossed x y de dd a b c p q B E D C Y =
     sym (mod_scale (x * dd) (y * de) c Y C)
@@ -59,42 +59,23 @@ rem_values f s t (fin u m e) (fin u' n d) a b c C B v w =
     ∙ round_same f s (m * up e * down d % (n * up d * down e)) (down e * down d) (a % b) c (mul-pos (down_pos e) (down_pos d)) C
     (crossed (m * up e) (n * up d) (down e) (down d) a b c v.1 w.1 B (down_pos e) (down_pos d) C (mul-pos (mul-pos N (up_pos d)) (down_pos e)))
 
-product : (x y de dd a b c d : ℕ) → x * c ≡ a * de → y * d ≡ b * dd → x * y * (c * d) ≡ a * b * (de * dd)
-product x y de dd a b c d p q =
-    swap x y c d ∙ ap (λ (z : ℕ). z * (y * d)) p ∙ ap (λ (z : ℕ). a * de * z) q ∙ swap a de b dd
-  where
-    swap : (x y c d : ℕ) → x * y * (c * d) ≡ x * c * (y * d)
-    swap x y c d = sym (mul_assoc (x * y) c d) ∙ ap (λ (z : ℕ). z * d) (mul_right_comm x y c) ∙ mul_assoc (x * c) y d
-
-pub mul_values : (f : Format) (x y : Float) (a b c d : ℕ) → 0 < c → 0 < d → HasValue x false a c → HasValue y false b d → mul f x y ≡ round f false (a * b) (c * d)
-unfolding mul
-mul_values f nan y a b c d C D v w = absurd v
-mul_values f (inf u) y a b c d C D v w = absurd v
-mul_values f (fin true m e) y a b c d C D v w = absurd (true≢false v.0)
-mul_values f (fin false m e) nan a b c d C D v w = absurd w
-mul_values f (fin false m e) (inf u') a b c d C D v w = absurd w
-mul_values f (fin false m e) (fin true n g) a b c d C D v w = absurd (true≢false w.0)
-mul_values f (fin false m e) (fin false n g) a b c d C D v w =
-    round_same f false (m * up e * (n * up g)) (down e * down g) (a * b) (c * d) (mul-pos (down_pos e) (down_pos g)) (mul-pos C D)
-    (product (m * up e) (n * up g) (down e) (down g) a b c d v.1 w.1)
-
 -- ---- bit patterns
-pub low_counted : (b : ℕ) → b < 2 ^ 52 → counted b ≡ b
+pub counted_low : (b : ℕ) → b < 2 ^ 52 → counted b ≡ b
 unfolding counted
-low_counted b h = ap (λ (t : Bool). cond t b ((2 ^ 52 + b % 2 ^ 52) * 2 ^ (b / 2 ^ 52 - 1))) (lt-ltb b (2 ^ 52) h)
+counted_low b h = ap (λ (t : Bool). cond t b ((2 ^ 52 + b % 2 ^ 52) * 2 ^ (b / 2 ^ 52 - 1))) (lt-ltb b (2 ^ 52) h)
 
-pub high_counted : (b : ℕ) → 2 ^ 52 ≤ b → counted b ≡ (2 ^ 52 + b % 2 ^ 52) * 2 ^ (b / 2 ^ 52 - 1)
+pub counted_high : (b : ℕ) → 2 ^ 52 ≤ b → counted b ≡ (2 ^ 52 + b % 2 ^ 52) * 2 ^ (b / 2 ^ 52 - 1)
 unfolding counted
-high_counted b h = ap (λ (t : Bool). cond t b ((2 ^ 52 + b % 2 ^ 52) * 2 ^ (b / 2 ^ 52 - 1))) (le-ltb b (2 ^ 52) h)
+counted_high b h = ap (λ (t : Bool). cond t b ((2 ^ 52 + b % 2 ^ 52) * 2 ^ (b / 2 ^ 52 - 1))) (le-ltb b (2 ^ 52) h)
 
 pub low_units : (b : ℕ) → b < 2 ^ 52 → InUnits b b 0
-low_units b h = record { value = mul-one b ∙ sym (low_counted b h); most = omega arith; least = λ z. absurd (lt_irrefl 0 z); ceil = omega arith }
+low_units b h = record { value = mul-one b ∙ sym (counted_low b h); most = omega arith; least = λ z. absurd (lt_irrefl 0 z); ceil = omega arith }
 
 pub high_units : (b : ℕ) → 2 ^ 52 ≤ b → b < 0x7ff0_0000_0000_0000 → InUnits b (2 ^ 52 + b % 2 ^ 52) (b / 2 ^ 52 - 1)
-high_units b h k = record { value = sym (high_counted b h); most = omega arith; least = λ z. omega arith; ceil = omega arith }
+high_units b h k = record { value = sym (counted_high b h); most = omega arith; least = λ z. omega arith; ceil = omega arith }
 
 pub low_power : (e : ℕ) → e < 52 → counted (2 ^ e) ≡ 2 ^ e
-low_power e h = low_counted (2 ^ e) (lt_of_lt_of_le (two_less e) (pow_mono {i = e + 1} {j = 52} (omega arith)))
+low_power e h = counted_low (2 ^ e) (lt_of_lt_of_le (two_less e) (pow_mono {i = e + 1} {j = 52} (omega arith)))
   where
     two_less : (e : ℕ) → 2 ^ e < 2 ^ (e + 1)
     two_less e = subst (λ (x : ℕ). 2 ^ e < x) (sym (pow-add 2 e 1)) (grows (2 ^ e) (pow_pos e))
@@ -109,7 +90,7 @@ high_power e h =
     let r : b % 2 ^ 52 ≡ 0 = omega arith in
     let q : b / 2 ^ 52 - 1 ≡ e - 52 = omega arith in
     let s : 52 + (e - 52) ≡ e = omega arith in
-    high_counted b l ∙ ap (λ (x : ℕ). (2 ^ 52 + x) * 2 ^ (b / 2 ^ 52 - 1)) r ∙ ap (λ (i : ℕ). (2 ^ 52 + 0) * 2 ^ i) q ∙ sym (pow-add 2 52 (e - 52)) ∙ ap (λ (i : ℕ). 2 ^ i) s
+    counted_high b l ∙ ap (λ (x : ℕ). (2 ^ 52 + x) * 2 ^ (b / 2 ^ 52 - 1)) r ∙ ap (λ (i : ℕ). (2 ^ 52 + 0) * 2 ^ i) q ∙ sym (pow-add 2 52 (e - 52)) ∙ ap (λ (i : ℕ). 2 ^ i) s
 
 -- ---- the exponents are in the order of the numbers
 order : (m e n d : ℕ) → m < 2 ^ 53 → (0 < d → 2 ^ 52 ≤ n) → n * 2 ^ d ≤ m * 2 ^ e → d ≤ e
@@ -161,7 +142,7 @@ rem_units x y m e n d r p X Y P B o u v s w =
     let N = some_units y n d v B in
     let few : r ≤ 2 ^ 53 = subst (λ (z : ℕ). z ≤ 2 ^ 53) (sym s) (small (m * 2 ^ (e - d)) n N v.most) in
     let one : 1 * 2 ^ 1074 ≡ 2 ^ 1074 = one-mul (2 ^ 1074) in
-    mul_values binary64 (of_int binary64 (pos r)) (of_bits binary64 p) r (counted p) 1 (2 ^ 1074) (zero-lt-suc 0) (pow_pos 1074) (whole_value binary64 r few) (counted_value p P)
+    mul_over binary64 (of_int binary64 (pos r)) (of_bits binary64 p) false false r 1 (counted p) (2 ^ 1074) (zero-lt-suc 0) (pow_pos 1074) (whole_value binary64 r few) (counted_value p P)
     ∙ ap (λ (z : ℕ). round binary64 false (r * z) (1 * 2 ^ 1074)) w
     ∙ ap (λ (z : ℕ). round binary64 false (r * 2 ^ d) z) one
     ∙ ap (λ (z : ℕ). round binary64 false z (2 ^ 1074)) (sym (units_mod x y m e n d r u v (exponents x y m e n d u v o) N s))

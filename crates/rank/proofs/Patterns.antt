@@ -2,7 +2,7 @@
 -- `zero_pattern`. Assumes nothing.
 use mathlib.Core.Path.{◌≡◌, refl, sym, ap, ◌∙◌, subst}
 use mathlib.Core.Logic.{◌⊎◌, inl, inr}
-use mathlib.Core.Bool.{Bool, true, false, not, ◌&&◌, ◌||◌, beq, cond}
+use mathlib.Core.Bool.{Bool, true, false, not, ◌&&◌, ◌||◌, beq}
 use Prim.Native.Nat.{ℕ, zero, suc, ◌+◌, ◌-◌, ◌*◌, ◌/◌, ◌%◌, ◌^◌, ◌≤◌, ◌<◌, zero-le}
 use native.Mathlib.Nat.{le_of_lt, lt_trans, le_of_suc-le-suc, eq-or-lt_of_le, mul_comm, mul_assoc, add-mul, mul-pos, mul-lt-mul_of_pos_right, two-pow-succ, zero-lt-suc, zero-mul}
 use native.Mathlib.Decide.{dec_lt}
@@ -16,6 +16,7 @@ use lib.Ieee.{Float, nan, inf, fin, up, down, lt, eq, below, level}
 use lib.Ieee.Fits.{up_pos, down_pos}
 use Rattle.float.specs.Inner.{counted}
 use Rattle.rank.specs.Order.{is_minus_zero}
+use Rattle.float.proofs.Modulo.{counted_low, counted_high}
 
 -- ---- a function that grows strictly keeps `<` and `=`
 module _ (f : ℕ → ℕ) (grows : (a b : ℕ) → a < b → f a < f b) where
@@ -105,14 +106,6 @@ module _ (c : ℕ) (C : 0 < c) (a b : ℕ) where
   zero_fin s (suc m) e p = let z : eqb a 0 ≡ false = ne_eqb a 0 (some a m (up e) (down e) c (up_pos e) C p) in rw z (sym (and-false s))
 
 -- ---- a pattern without its sign stands for more smallest values than the one before it
-counted_low : (p : ℕ) → p < 2 ^ 52 → counted p ≡ p
-unfolding counted
-counted_low p h = ap (λ (t : Bool). cond t p ((2 ^ 52 + p % 2 ^ 52) * 2 ^ (p / 2 ^ 52 - 1))) (lt-ltb p (2 ^ 52) h)
-
-counted_high : (p : ℕ) → 2 ^ 52 ≤ p → counted p ≡ (2 ^ 52 + p % 2 ^ 52) * 2 ^ (p / 2 ^ 52 - 1)
-unfolding counted
-counted_high p h = ap (λ (t : Bool). cond t p ((2 ^ 52 + p % 2 ^ 52) * 2 ^ (p / 2 ^ 52 - 1))) (le-ltb p (2 ^ 52) h)
-
 last : counted (2 ^ 52 - 1) < counted (2 ^ 52 - 1 + 1)
 unfolding counted
 last = lit< tt
