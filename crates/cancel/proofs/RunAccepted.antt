@@ -16,8 +16,8 @@ use Rattle.fits.specs.List.{FIT}
 use Rattle.fits.specs.Estimate.{strong_elements, strong_fits}
 use Rattle.engine.specs.declared.run.RunFigures.{RunFigures}
 use Rattle.engine.specs.Run.{run_figures, run_buffer}
-use Rattle.cancel.specs.declared.running.RunAnswer.{RunAnswer}
-use Rattle.cancel.specs.declared.running.RunAnswer.TheVariants.{Refused, Done}
+use Rattle.std.specs.Prelude.{Result, Ok, Err}
+use Rattle.questions.specs.declared.refusals.Refusal.{Refusal}
 use Rattle.questions.specs.Answers.{accepted, refused}
 use Rattle.questions.specs.Questions.{ask, first_no, count_ok, carrier_ok, places_ok, work_ok, estimate_questions}
 use Rattle.cancel.specs.Running.{RunResult, run_outcome, run_rule}
@@ -46,13 +46,13 @@ module _ (buf : List Float) (fs hint : Float) (elements fits work : List Float) 
   unfolding run_rule
   run_number n lent e = refused_asked _ _ _ n lent e
 
-  -- What 01 accepts is never refused: with a yes to each question, 1 to 6, the fifth of two lists, the answer is Done,
+  -- What 01 accepts is never refused: with a yes to each question, 1 to 6, the fifth of two lists, the answer is Ok,
   -- with the run's figures.
   pub run_accepts : rate_ok fs ≡ true → count_ok (length buf) ≡ true → all_finite buf ≡ true → carrier_ok fs hint ≡ true
       → places_ok (step_blocks buf fs / 2) (length elements / ELEMENT) ≡ true → places_ok (step_blocks buf fs / 2) (length fits / FIT) ≡ true
-      → work_ok (step_blocks buf fs) (length work) ≡ true → (a : RunAnswer) (buffer-after elements-after fits_after work-after : List Float)
-      → run_outcome a buffer-after elements-after fits_after work-after ≡ run_rule buf fs hint elements fits work → a ≡ Done (run_figures buf fs hint)
+      → work_ok (step_blocks buf fs) (length work) ≡ true → (a : Result RunFigures Refusal) (buffer-after elements-after fits_after work-after : List Float)
+      → run_outcome a buffer-after elements-after fits_after work-after ≡ run_rule buf fs hint elements fits work → a ≡ Ok (run_figures buf fs hint)
   unfolding run_rule
-  run_accepts rate count finite carrier places fit_places room (Refused n) buffer-after elements-after fits_after work-after e =
-      absurd (never_refused _ _ _ n _ e (rate, (count, (finite, (carrier, (places, (fit_places, (room, tt))))))))
-  run_accepts rate count finite carrier places fit_places room (Done f) buffer-after elements-after fits_after work-after e = ap Done (run_done _ e).1
+  run_accepts rate count finite carrier places fit_places room (Err r) buffer-after elements-after fits_after work-after e =
+      absurd (never_refused _ _ _ _ _ e (rate, (count, (finite, (carrier, (places, (fit_places, (room, tt))))))))
+  run_accepts rate count finite carrier places fit_places room (Ok f) buffer-after elements-after fits_after work-after e = ap Ok (run_done _ e).1

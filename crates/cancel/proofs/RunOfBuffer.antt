@@ -2,6 +2,7 @@
 -- `run_buffer` and of the elements and fits of the second pass: of no call, no lent list and no earlier content of one,
 -- so that it can be read of each run of a call that makes several. `RunPromises` says the same of what `cancel::run`
 -- answers and leaves. Assumes nothing.
+use Rattle.std.proofs.Common.{Some, None}
 use Prim.Native.Nat.{ℕ, ◌+◌, ◌-◌, ◌^◌, ◌≤◌, ◌<◌}
 use native.Mathlib.Omega.{arith}
 use mathlib.Core.Path.{◌≡◌, refl, sym, ap, ◌∙◌}
@@ -22,14 +23,12 @@ use Rattle.rank.proofs.Sorted.{every_at}
 use Rattle.float.proofs.Amounts.{Amount}
 use Rattle.elements.specs.declared.element.KeyedElement.{KeyedElement}
 use Rattle.elements.specs.Keying.{LongKeyDowns, RowCounts, no_key_downs}
-use Rattle.elements.specs.declared.threshold.Threshold.TheVariants.{At, Absent}
 use Rattle.elements.specs.Find.{threshold_of, found_of}
 use Rattle.elements.specs.Times.{Placed, InTime}
 use Rattle.elements.proofs.Recording.{all_counted}
 use Rattle.elements.proofs.Exactly.{counted_exactly, counted_nothing}
 use Rattle.elements.proofs.Times.{found_placed, found_in_time}
 use Rattle.fits.specs.declared.fit.ElementFit.{ElementFit}
-use Rattle.fits.specs.declared.fit.Fit.TheVariants.{Fitted}
 use Rattle.fits.specs.Fit.{fit_of}
 use Rattle.fits.specs.List.{is_skipped, skipped_of}
 use Rattle.fits.specs.Estimate.{refined, carrier_step, strong_elements, strong_fits, strong_estimate}
@@ -80,7 +79,7 @@ module _ (buf : List Float) (fs hint : Float) where
   pub fits_of_listed : map (λ g. g.element) (strong_fits buf fs hint) ≡ those (λ e. not (is_skipped (fit_of buf fs (ran.estimate.carrier_hz ⊘ fs) e))) (strong_elements buf fs hint)
   fits_of_listed = rw carrier_is (strong_fits_are buf fs hint)
 
-  pub fits_each : (g : ElementFit) → Memᴰ g (strong_fits buf fs hint) → fit_of buf fs (ran.estimate.carrier_hz ⊘ fs) g.element ≡ Fitted g
+  pub fits_each : (g : ElementFit) → Memᴰ g (strong_fits buf fs hint) → fit_of buf fs (ran.estimate.carrier_hz ⊘ fs) g.element ≡ Some g
   fits_each g m = rw carrier_is (strong_fit_is buf fs hint g m)
 
   fitted_is : ran.estimate.fitted ≡ length (strong_fits buf fs hint)
@@ -140,12 +139,12 @@ module _ (buf : List Float) (fs hint : Float) where
   -- ---- Key-downs, listed and short, as counts, are how many of each the row at the final carrier has: there is a list
   -- that has each of its key-downs once, in order, and nothing else, and of it they are counted.
   module _ (singles : Singles buf) (iq_ok : Iq buf) where
-    pub counts_exactly : (thr : Float) → threshold_of buf fs ran.estimate.carrier_hz ≡ At thr
+    pub counts_exactly : (thr : Float) → threshold_of buf fs ran.estimate.carrier_hz ≡ Some thr
         → RowCounts (row_of buf fs ran.estimate.carrier_hz) thr (row_length buf fs - 1) (step_of fs) fs ran.estimate.found
     counts_exactly thr t = rw found_is (counted_exactly buf fs ran.estimate.carrier_hz singles iq_ok thr t)
 
     -- The list holds the key-downs whose computed length is at least RISE_S × fs, each once, in order, nothing else.
-    pub list_exactly : (thr : Float) → threshold_of buf fs ran.estimate.carrier_hz ≡ At thr
+    pub list_exactly : (thr : Float) → threshold_of buf fs ran.estimate.carrier_hz ≡ Some thr
         → LongKeyDowns (row_of buf fs ran.estimate.carrier_hz) thr (row_length buf fs - 1) (step_of fs) fs (strong_elements buf fs hint)
     list_exactly thr t = rw carrier_is (strong_exactly buf fs hint singles iq_ok thr (rw carrier_is at t))
 
@@ -200,10 +199,10 @@ module _ (buf : List Float) (fs hint : Float) where
     inner_plain i h = amount_plain (get_or inner i nan) (every_at Amount inner (powers_amounts buf fs singles iq_ok _ _ (omega arith) _) i h)
 
   -- With no threshold, nothing.
-  pub counts_nothing : threshold_of buf fs ran.estimate.carrier_hz ≡ Absent → ran.estimate.found ≡ no_key_downs
+  pub counts_nothing : threshold_of buf fs ran.estimate.carrier_hz ≡ None → ran.estimate.found ≡ no_key_downs
   counts_nothing t = found_is ∙ counted_nothing buf fs ran.estimate.carrier_hz t
 
-  pub list_nothing : threshold_of buf fs ran.estimate.carrier_hz ≡ Absent → strong_elements buf fs hint ≡ []
+  pub list_nothing : threshold_of buf fs ran.estimate.carrier_hz ≡ None → strong_elements buf fs hint ≡ []
   list_nothing t = strong_nothing buf fs hint (rw carrier_is at t)
 
   -- ---- The word: taken exactly when all four hold.

@@ -1,8 +1,9 @@
 -- What every accepted run answers and leaves in what it was lent (the user's third demand): the final estimate, the
 -- balances, each figure from the lists that it hands out, the list, the word kept or taken with the buffer, and what
 -- two runs share. Each is `RunOfBuffer`'s law at the buffer as it was lent. `promise` and `singles` are what
--- `cancel::run` ensures where it answers `Done`; `singles` says that each number that the buffer held is an f32.
+-- `cancel::run` ensures where it answers `Ok`; `singles` says that each number that the buffer held is an f32.
 -- Nothing else is asked of a caller. Assumes nothing.
+use Rattle.std.proofs.Common.{Some, None}
 use Prim.Native.Nat.{ℕ, ◌+◌, ◌-◌, ◌<◌}
 use mathlib.Core.Path.{◌≡◌, sym, ap, ◌∙◌}
 use mathlib.Core.Logic.{◌≢◌}
@@ -20,12 +21,10 @@ use Rattle.row.specs.Envelope.{row_of, row_length}
 use Rattle.elements.specs.declared.element.KeyedElement.{KeyedElement}
 use Rattle.elements.specs.Element.{elements_in}
 use Rattle.elements.specs.Keying.{LongKeyDowns, RowCounts, no_key_downs}
-use Rattle.elements.specs.declared.threshold.Threshold.TheVariants.{At, Absent}
 use Rattle.elements.specs.Find.{threshold_of, found_of}
 use Rattle.elements.specs.Times.{Placed, InTime}
 use Rattle.elements.proofs.Records.{elements_read}
 use Rattle.fits.specs.declared.fit.ElementFit.{ElementFit}
-use Rattle.fits.specs.declared.fit.Fit.TheVariants.{Fitted}
 use Rattle.fits.specs.Fit.{fit_of}
 use Rattle.fits.specs.List.{fits_in, is_skipped, skipped_of}
 use Rattle.fits.specs.Estimate.{refined, carrier_step, strong_elements, strong_fits}
@@ -45,7 +44,7 @@ use Rattle.measure.specs.Hypothesis.{hypothesis_of}
 use Rattle.measure.specs.Agree.{AgreeIn}
 use Rattle.engine.specs.declared.run.RunFigures.{RunFigures}
 use Rattle.engine.specs.Run.{takes, run_figures, run_buffer}
-use Rattle.cancel.specs.declared.running.RunAnswer.TheVariants.{Done}
+use Rattle.std.specs.Prelude.{Ok}
 use Rattle.cancel.specs.Running.{run_outcome, run_rule}
 use Rattle.strong.proofs.EstimateAccepted.{estimate_accepted}
 use Rattle.cancel.proofs.RunAccepted.{run_done}
@@ -53,7 +52,7 @@ use Rattle.measure.proofs.Bounds.{Plain}
 use Rattle.cancel.proofs.RunOfBuffer as ran
 
 module _ (buf : List Float) (fs hint : Float) (elements fits work : List Float) (f : RunFigures) (buffer-after elements-after fits_after work-after : List Float)
-    (promise : run_outcome (Done f) buffer-after elements-after fits_after work-after ≡ run_rule buf fs hint elements fits work) where
+    (promise : run_outcome (Ok f) buffer-after elements-after fits_after work-after ≡ run_rule buf fs hint elements fits work) where
   -- the elements and the fits handed out
   abbrev elements_out : List KeyedElement
   elements_out = elements_in elements-after f.estimate.found.listed
@@ -110,7 +109,7 @@ module _ (buf : List Float) (fs hint : Float) (elements fits work : List Float) 
   pub fits_of_listed : map (λ g. g.element) fits_out ≡ those (λ e. not (is_skipped (fit_of buf fs (f.estimate.carrier_hz ⊘ fs) e))) elements_out
   fits_of_listed = rw (fits_out_are, elements_out_are, figures_are) (ran.fits_of_listed buf fs hint)
 
-  pub fits_each : (g : ElementFit) → Memᴰ g fits_out → fit_of buf fs (f.estimate.carrier_hz ⊘ fs) g.element ≡ Fitted g
+  pub fits_each : (g : ElementFit) → Memᴰ g fits_out → fit_of buf fs (f.estimate.carrier_hz ⊘ fs) g.element ≡ Some g
   fits_each g m = rw figures_are (ran.fits_each buf fs hint g (rw fits_out_are at m))
 
   -- fitted is how many of the listed elements are not skipped
@@ -155,12 +154,12 @@ module _ (buf : List Float) (fs hint : Float) (elements fits work : List Float) 
   -- ---- Key-downs, listed and short, as counts, are how many of each the row at the final carrier has: there is a list
   -- that has each of its key-downs once, in order, and nothing else, and of it they are counted.
   module _ (singles : Singles buf) where
-    pub counts_exactly : (thr : Float) → threshold_of buf fs f.estimate.carrier_hz ≡ At thr
+    pub counts_exactly : (thr : Float) → threshold_of buf fs f.estimate.carrier_hz ≡ Some thr
         → RowCounts (row_of buf fs f.estimate.carrier_hz) thr (row_length buf fs - 1) (step_of fs) fs f.estimate.found
     counts_exactly thr t = rw figures_are (ran.counts_exactly buf fs hint singles iq_ok thr (rw figures_are at t))
 
     -- The list holds the key-downs whose computed length is at least RISE_S × fs, each once, in order, nothing else.
-    pub list_exactly : (thr : Float) → threshold_of buf fs f.estimate.carrier_hz ≡ At thr
+    pub list_exactly : (thr : Float) → threshold_of buf fs f.estimate.carrier_hz ≡ Some thr
         → LongKeyDowns (row_of buf fs f.estimate.carrier_hz) thr (row_length buf fs - 1) (step_of fs) fs elements_out
     list_exactly thr t = rw (elements_out_are, figures_are) (ran.list_exactly buf fs hint singles iq_ok thr (rw figures_are at t))
 
@@ -186,10 +185,10 @@ module _ (buf : List Float) (fs hint : Float) (elements fits work : List Float) 
     inner_plain i h = rw (fits_out_are, elements_out_are, figures_are) (ran.inner_plain buf fs hint singles iq_ok i (rw (fits_out_are, elements_out_are, figures_are) at h))
 
   -- With no threshold, nothing.
-  pub counts_nothing : threshold_of buf fs f.estimate.carrier_hz ≡ Absent → f.estimate.found ≡ no_key_downs
+  pub counts_nothing : threshold_of buf fs f.estimate.carrier_hz ≡ None → f.estimate.found ≡ no_key_downs
   counts_nothing t = rw figures_are (ran.counts_nothing buf fs hint (rw figures_are at t))
 
-  pub list_nothing : threshold_of buf fs f.estimate.carrier_hz ≡ Absent → elements_out ≡ []
+  pub list_nothing : threshold_of buf fs f.estimate.carrier_hz ≡ None → elements_out ≡ []
   list_nothing t = rw elements_out_are (ran.list_nothing buf fs hint (rw figures_are at t))
 
   -- ---- The word: taken exactly when all four hold.
@@ -213,8 +212,8 @@ module _ (buf : List Float) (fs hint : Float) (elements fits work : List Float) 
 -- hints, the lists and the positions are.
 module _ (buf buf' : List Float) (fs hint hint' : Float) (elements elements' fits fits' work work' : List Float) (f g : RunFigures)
     (buffer-after buffer-after' elements-after elements-after' fits_after fits-after' work-after work-after' : List Float)
-    (one : run_outcome (Done f) buffer-after elements-after fits_after work-after ≡ run_rule buf fs hint elements fits work)
-    (two : run_outcome (Done g) buffer-after' elements-after' fits-after' work-after' ≡ run_rule buf' fs hint' elements' fits' work')
+    (one : run_outcome (Ok f) buffer-after elements-after fits_after work-after ≡ run_rule buf fs hint elements fits work)
+    (two : run_outcome (Ok g) buffer-after' elements-after' fits-after' work-after' ≡ run_rule buf' fs hint' elements' fits' work')
     (long : length buf ≡ length buf')
     (carrier : f.estimate.carrier_hz ≡ g.estimate.carrier_hz)
     (fits-alike : map rust_of (fits_in fits_after f.estimate.fitted) ≡ map rust_of (fits_in fits-after' g.estimate.fitted))

@@ -1,5 +1,7 @@
 -- Every count among the figures of a call is below 2^53, and so exact: one law over a count, `count_exact`, and of each
 -- call its counts. `Iq` and `Rate` are what an accepted call knows of its recording and its rate. Assumes nothing.
+use Rattle.std.proofs.Common.{Some, None}
+use Rattle.std.specs.declared.option.Option.{Option}
 use Prim.Native.Nat.{ℕ, ◌-◌, ◌*◌, ◌^◌, ◌/◌, ◌≤◌, ◌<◌}
 use native.Mathlib.Nat.{mul-le-mul, div-le_self}
 use native.Mathlib.Omega.{arith}
@@ -15,10 +17,6 @@ use Rattle.row.specs.Envelope.{row_of, row_length}
 use Rattle.row.proofs.Means.{blocks_short}
 use Rattle.row.proofs.Steps.{step_high}
 use Rattle.elements.specs.declared.element.KeyedElement.{KeyedElement}
-use Rattle.elements.specs.declared.keying.Rising.{Rising}
-use Rattle.elements.specs.declared.keying.Rising.TheVariants as rising
-use Rattle.elements.specs.declared.threshold.Threshold.{Threshold}
-use Rattle.elements.specs.declared.threshold.Threshold.TheVariants.{At, Absent}
 use Rattle.elements.specs.Keying.{pending, row_key_downs, long, airtime_of, listed_of, counts, found_to}
 use Rattle.elements.specs.Find.{threshold_of, found_at, found_of, amplitude_row_of}
 use Rattle.elements.proofs.Joined.{airtime_steps, those_less}
@@ -50,18 +48,18 @@ count_exact n h = record { below = h; value = whole_value binary64 n (omega arit
 air_most : (row : ℕ → Float) (thr : Float) (j : ℕ) → airtime_of 1 (row_key_downs row thr j) ≤ j
 air_most row thr j = go (pending row thr j) (spaced row thr j)
   where
-    go : (r : Rising) → Spaced r j (row_key_downs row thr j) → airtime_of 1 (row_key_downs row thr j) ≤ j
-    go (rising.At u) s = omega arith
-    go rising.Nothing s = s.1
+    go : (r : Option ℕ) → Spaced r j (row_key_downs row thr j) → airtime_of 1 (row_key_downs row thr j) ≤ j
+    go (Some u) s = omega arith
+    go None s = s.1
 
-air_at : (row : ℕ → Float) (last step : ℕ) (fs : Float) (t : Threshold) → (found_at row last step fs t).airtime ≤ last * step
+air_at : (row : ℕ → Float) (last step : ℕ) (fs : Float) (t : Option Float) → (found_at row last step fs t).airtime ≤ last * step
 unfolding found_to counts listed_of
-air_at row last step fs (At thr) =
+air_at row last step fs (Some thr) =
     let less = those_less (long row thr step fs) step (row_key_downs row thr last) in
     let steps = airtime_steps step (row_key_downs row thr last) in
     let most : airtime_of 1 (row_key_downs row thr last) * step ≤ last * step = mul-le-mul {n₁ = airtime_of 1 (row_key_downs row thr last)} {n₂ = last} (air_most row thr last) (omega arith) in
     omega arith
-air_at row last step fs Absent = omega arith
+air_at row last step fs None = omega arith
 
 module _ (iq : List Float) (fs : Float) (q : Iq iq) (r : Rate fs) where
   air_small : (carrier : Float) → (found_of iq fs carrier).airtime ≤ 2 ^ 26

@@ -9,8 +9,7 @@ use Rattle.lists.specs.Records.{Handed}
 use Rattle.fits.specs.declared.fit.ElementFit.{ElementFit}
 use Rattle.fits.specs.Estimate.{strong_estimate}
 use Rattle.questions.specs.Answers.{accepted, by_number}
-use Rattle.strong.specs.declared.find.FindAnswer.TheVariants as find
-use Rattle.strong.specs.declared.estimate.EstimateAnswer.TheVariants as estimate
+use Rattle.std.specs.Prelude.{Ok}
 use Rattle.strong.specs.Find.{find_outcome, find_rule}
 use Rattle.strong.specs.Estimate.{estimate_outcome, estimate_rule}
 use Rattle.strong.proofs.FindAccepted.{find_result, find_done}
@@ -22,7 +21,7 @@ use Rattle.capi.proofs.Ways.{call_told}
 -- `promise` is what `cancel_find_elements` ensures where it returns 0
 module _ (iq : List Float) (fs hz : Float) (elements work figures-before elements-after work-after figures : List Float)
     (promise : find_called 0 (found_of iq fs hz).listed elements-after work-after figures ≡ find_call iq fs hz elements work figures-before) where
-  pub find_for_c : (figures ≡ found_figures (found_of iq fs hz)) × (find_outcome (find.Done (found_of iq fs hz)) elements-after work-after ≡ find_rule iq fs hz elements work)
+  pub find_for_c : (figures ≡ found_figures (found_of iq fs hz)) × (find_outcome (Ok (found_of iq fs hz)) elements-after work-after ≡ find_rule iq fs hz elements work)
   unfolding find_call by_number
   find_for_c =
       let told = call_told find_told figures-before (find_rule iq fs hz elements work) _ promise in
@@ -41,7 +40,7 @@ module _ (iq : List Float) (fs hint : Float) (elements fits work figures-before 
   Lists = Handed KeyedElement × Handed ElementFit
 
   pub estimate_for_c : (figures ≡ estimate_figures (strong_estimate iq fs hint))
-      × (estimate_outcome (estimate.Done (strong_estimate iq fs hint)) elements-after fits_after work-after ≡ estimate_rule iq fs hint elements fits work)
+      × (estimate_outcome (Ok (strong_estimate iq fs hint)) elements-after fits_after work-after ≡ estimate_rule iq fs hint elements fits work)
   unfolding estimate_call by_number
   estimate_for_c =
       let told = call_told estimate_told figures-before (estimate_rule iq fs hint elements fits work) _ promise in

@@ -1,6 +1,7 @@
 -- Laws that the proofs of `capi` share, by subject.
 
--- Ways        the two ways out of a call: `refused_call`, `done_call`, without figures `refused_way`; back from what C
+-- Ways        the two ways out of a call: `refused_call`, `done_call`, both by what the call of crate cancel answered,
+--             `told_way`, without figures `refused_way`; back from what C
 --             has to the result: `call_told`; the result of an accepted call, for C: `find_told_lem`, `fit_told_lem`,
 --             `estimate_told_lem`, `measure_told`, `numbers_told`
 -- RunTold     the same of a run: `run_told_lem`

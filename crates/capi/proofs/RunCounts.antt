@@ -12,7 +12,7 @@ use Rattle.row.proofs.Steps.{step_high}
 use Rattle.fits.specs.Estimate.{refined, strong_elements, strong_fits, strong_estimate}
 use Rattle.engine.specs.declared.run.RunFigures.{RunFigures}
 use Rattle.engine.specs.Run.{run_figures}
-use Rattle.cancel.specs.declared.running.RunAnswer.TheVariants.{Done}
+use Rattle.std.specs.Prelude.{Ok}
 use Rattle.cancel.specs.Running.{run_outcome, run_rule}
 use Rattle.cancel.proofs.RunOfBuffer as ran
 use Rattle.cancel.proofs.RunPromises.{iq_ok, rate_ok_lem}
@@ -54,7 +54,7 @@ module _ (buf : List Float) (fs hint : Float) (q : Iq buf) (r : Rate fs) where
 -- `promise` is what `cancel_run` ensures where it returns 0
 module _ (buf : List Float) (fs hint : Float) (elements fits work figures-before buffer-after elements-after fits_after work-after figures : List Float)
     (promise : run_called 0 (strong_estimate buf fs hint) buffer-after elements-after fits_after work-after figures ≡ run_call buf fs hint elements fits work figures-before) where
-  done : (figures ≡ ran_figures (run_figures buf fs hint)) × (run_outcome (Done (run_figures buf fs hint)) buffer-after elements-after fits_after work-after ≡ run_rule buf fs hint elements fits work)
+  done : (figures ≡ ran_figures (run_figures buf fs hint)) × (run_outcome (Ok (run_figures buf fs hint)) buffer-after elements-after fits_after work-after ≡ run_rule buf fs hint elements fits work)
   done = run_for_c buf fs hint elements fits work figures-before buffer-after elements-after fits_after work-after figures promise
 
   -- Each count among the figures is the run's, exactly: those that `RunPromises` speaks of.

@@ -5,7 +5,7 @@ use mathlib.Core.List.{List}
 use lib.Ieee.{Float}
 use Rattle.fits.specs.Estimate.{strong_estimate}
 use Rattle.engine.specs.Run.{run_figures}
-use Rattle.cancel.specs.declared.running.RunAnswer.TheVariants.{Done}
+use Rattle.std.specs.Prelude.{Ok}
 use Rattle.questions.specs.Answers.{accepted, by_number}
 use Rattle.cancel.specs.Running.{run_outcome, run_rule}
 use Rattle.cancel.proofs.RunAccepted.{run_result, run_done}
@@ -17,7 +17,7 @@ use Rattle.capi.proofs.Ways.{call_told}
 -- `promise` is what `cancel_run` ensures where it returns 0
 module _ (buf : List Float) (fs hint : Float) (elements fits work figures-before buffer-after elements-after fits_after work-after figures : List Float)
     (promise : run_called 0 (strong_estimate buf fs hint) buffer-after elements-after fits_after work-after figures ≡ run_call buf fs hint elements fits work figures-before) where
-  pub run_for_c : (figures ≡ ran_figures (run_figures buf fs hint)) × (run_outcome (Done (run_figures buf fs hint)) buffer-after elements-after fits_after work-after ≡ run_rule buf fs hint elements fits work)
+  pub run_for_c : (figures ≡ ran_figures (run_figures buf fs hint)) × (run_outcome (Ok (run_figures buf fs hint)) buffer-after elements-after fits_after work-after ≡ run_rule buf fs hint elements fits work)
   unfolding run_call by_number run_figures
   run_for_c =
       let told = call_told run_told figures-before (run_rule buf fs hint elements fits work) _ promise in

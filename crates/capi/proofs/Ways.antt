@@ -11,7 +11,10 @@ use Rattle.elements.specs.Element.{handed_elements}
 use Rattle.fits.specs.declared.fit.ElementFit.{ElementFit}
 use Rattle.fits.specs.declared.estimate.Estimate.{Estimate}
 use Rattle.fits.specs.List.{handed_fits}
-use Rattle.questions.specs.Answers.{Outcome, accepted, refused, by_number, by_questions}
+use Rattle.std.specs.Prelude.{Result, Ok, Err, MatchResult}
+use Rattle.questions.specs.declared.refusals.Refusal.{Refusal}
+use Rattle.questions.specs.Refusals.{number_of}
+use Rattle.questions.specs.Answers.{Outcome, accepted, refused, outcome_of, by_number, by_questions}
 use Rattle.questions.specs.Questions.{Asked}
 use Rattle.questions.proofs.Calls.{refused_by}
 use Rattle.figures.specs.Calls.{found_figures, fitted_figures, estimate_figures}
@@ -34,6 +37,16 @@ module _ {L A B : Type 0} (told : A → Called B) (figures : List Float) where
   pub done_call : (rule : Outcome L A) (called : Called B) (r : A) (lent : List Float × L) → accepted r ≡ rule → called ≡ told r → by_number 0 called lent ≡ for_c told figures rule
   unfolding by_number
   done_call rule called r lent e q = rw (← e) (ap accepted q)
+
+  -- by what the call of crate cancel answered: res and of are the parts of its result and of its figures
+  pub told_way : {T : Type 0} (res : T → A) (of : T → List Float) (qs : List Asked) (result : A) (lent : L) (called : Called B) (n : ℕ) (l : L) (after : List Float) (a : Result T Refusal)
+      → outcome_of a res l ≡ by_questions qs result lent
+      → MatchResult a (λ x. (n ≡ 0) × (after ≡ of x)) (λ r. (n ≡ number_of r) × (after ≡ figures))
+      → ((x : T) → accepted (res x) ≡ by_questions qs result lent → after ≡ of x → called ≡ told (res x))
+      → by_number n called (after, l) ≡ for_c told figures (by_questions qs result lent)
+  told_way res of qs result lent called n l after (Ok x) e t so =
+      rw t.0 (done_call (by_questions qs result lent) called (res x) (after, l) e (so x e t.1))
+  told_way res of qs result lent called n l after (Err r) e t so = rw (t.0, t.1) (refused_call qs result lent called (number_of r) l e)
 
   -- and back: the result that a call has told where it was accepted
   pub call_told : (rule : Outcome L A) (called : Called B) → accepted called ≡ for_c told figures rule → (r : A) × (accepted r ≡ rule) × (called ≡ told r)

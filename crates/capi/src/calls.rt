@@ -6,7 +6,7 @@ ghost use Rattle.fits.specs.Estimate.{strong_estimate};
 ghost use Rattle.strong.specs.Fit.{fits_given};
 ghost use Rattle.capi.specs.Calls.{find_called, find_call, fit_called, fit_call, estimate_called, estimate_call};
 
-use cancel::{EstimateAnswer, FindAnswer, FitAnswer};
+use crate::answers::told;
 use figures::{ESTIMATE_FIGURES, FIND_FIGURES, FIT_FIGURES, of_estimate, of_find, of_fit};
 
 #[unsafe(no_mangle)]
@@ -21,13 +21,11 @@ pub extern "C" fn cancel_find_elements(
     ensures { find_called result (found_of iq.now fs carrier_hz).listed elements.new work.new figures.new
         ≡ find_call iq.now fs carrier_hz elements.old work.old figures.old }
 {
-    match cancel::find_elements(iq, fs, carrier_hz, elements, work) {
-        FindAnswer::Refused(no) => no,
-        FindAnswer::Done(f) => {
-            *figures = of_find(f);
-            0
-        }
-    }
+    told(
+        cancel::find_elements(iq, fs, carrier_hz, elements, work),
+        figures,
+        of_find,
+    )
 }
 
 #[unsafe(no_mangle)]
@@ -45,13 +43,11 @@ pub extern "C" fn cancel_fit_elements(
         fits.new work.new figures.new
         ≡ fit_call iq.now fs carrier_hz elements.now element_count fits.old work.old figures.old }
 {
-    match cancel::fit_elements(iq, fs, carrier_hz, elements, element_count, fits, work) {
-        FitAnswer::Refused(no) => no,
-        FitAnswer::Done(fitted) => {
-            *figures = of_fit(fitted);
-            0
-        }
-    }
+    told(
+        cancel::fit_elements(iq, fs, carrier_hz, elements, element_count, fits, work),
+        figures,
+        of_fit,
+    )
 }
 
 #[unsafe(no_mangle)]
@@ -67,11 +63,9 @@ pub extern "C" fn cancel_estimate_strong(
     ensures { estimate_called result (strong_estimate iq.now fs hint_hz) elements.new fits.new work.new figures.new
         ≡ estimate_call iq.now fs hint_hz elements.old fits.old work.old figures.old }
 {
-    match cancel::estimate_strong(iq, fs, hint_hz, elements, fits, work) {
-        EstimateAnswer::Refused(no) => no,
-        EstimateAnswer::Done(e) => {
-            *figures = of_estimate(e);
-            0
-        }
-    }
+    told(
+        cancel::estimate_strong(iq, fs, hint_hz, elements, fits, work),
+        figures,
+        of_estimate,
+    )
 }

@@ -8,21 +8,23 @@ ghost use Rattle.trig.specs.Argument.{arg_of};
 ghost use Rattle.logarithm.specs.Logarithm.{log10_of};
 ghost use Rattle.complex.specs.Value.{c_new, c_norm};
 
+use trig::Sines;
+
 // The table is made at each call here: many angles are for cancel_cos_sin.
 #[unsafe(no_mangle)]
 pub extern "C" fn cancel_sin(x: f64) -> f64
     ensures { result ≡ sin_of x }
 {
-    let sine = trig::sine_table();
-    trig::sin(x, &sine)
+    let sine = Sines::new();
+    sine.sin(x)
 }
 
 #[unsafe(no_mangle)]
 pub extern "C" fn cancel_cos(x: f64) -> f64
     ensures { result ≡ cos_of x }
 {
-    let sine = trig::sine_table();
-    trig::cos(x, &sine)
+    let sine = Sines::new();
+    sine.cos(x)
 }
 
 // The cosine and the sine of each angle, as complex numbers of `out`, for as many angles as have room there; their
@@ -32,7 +34,7 @@ pub extern "C" fn cancel_cos_sin(angles: &[f64], out: &mut [f64]) -> usize
     ensures { (result ≡ min (length angles.now) (length out.old / 2))
         × (out.new ≡ z_fill out.old 0 (unit_at angles.now) (min (length angles.now) (length out.old / 2))) }
 {
-    let sine = trig::sine_table();
+    let sine = Sines::new();
     complex::cos_sin(angles, out, &sine)
 }
 

@@ -2,7 +2,8 @@
 ghost use Rattle.std.specs.Prelude.{◌≡◌};
 ghost use Rattle.capi.specs.Measures.{residual_called, residual_call, evidence_called, evidence_call};
 
-use cancel::{EvidenceAnswer, ResidualAnswer};
+use crate::answers::told;
+use cancel::GivenEstimate;
 use figures::{EVIDENCE_FIGURES, RESIDUAL_FIGURES, of_evidence, of_residual};
 
 #[unsafe(no_mangle)]
@@ -21,23 +22,19 @@ pub extern "C" fn cancel_residual_check(
     ensures { residual_called result work.new figures.new
         ≡ residual_call iq.now fs carrier_hz carrier_step_hz elements.now element_count fits.now fit_count work.old figures.old }
 {
-    match cancel::residual_check(
-        iq,
-        fs,
+    let given = GivenEstimate {
         carrier_hz,
         carrier_step_hz,
         elements,
         element_count,
         fits,
         fit_count,
-        work,
-    ) {
-        ResidualAnswer::Refused(no) => no,
-        ResidualAnswer::Done(r) => {
-            *figures = of_residual(r);
-            0
-        }
-    }
+    };
+    told(
+        cancel::residual_check(iq, fs, &given, work),
+        figures,
+        of_residual,
+    )
 }
 
 #[unsafe(no_mangle)]
@@ -56,21 +53,17 @@ pub extern "C" fn cancel_second_carrier_evidence(
     ensures { evidence_called result work.new figures.new
         ≡ evidence_call iq.now fs carrier_hz carrier_step_hz elements.now element_count fits.now fit_count work.old figures.old }
 {
-    match cancel::second_carrier_evidence(
-        iq,
-        fs,
+    let given = GivenEstimate {
         carrier_hz,
         carrier_step_hz,
         elements,
         element_count,
         fits,
         fit_count,
-        work,
-    ) {
-        EvidenceAnswer::Refused(no) => no,
-        EvidenceAnswer::Done(e) => {
-            *figures = of_evidence(e);
-            0
-        }
-    }
+    };
+    told(
+        cancel::second_carrier_evidence(iq, fs, &given, work),
+        figures,
+        of_evidence,
+    )
 }

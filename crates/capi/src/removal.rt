@@ -3,7 +3,7 @@ ghost use Rattle.std.specs.Prelude.{◌≡◌};
 ghost use Rattle.given.specs.Removal.{subtract_rule};
 ghost use Rattle.capi.specs.Removal.{subtract_called};
 
-use cancel::SubtractAnswer;
+use cancel::GivenEstimate;
 
 #[unsafe(no_mangle)]
 pub extern "C" fn cancel_subtract(
@@ -19,17 +19,16 @@ pub extern "C" fn cancel_subtract(
     ensures { subtract_called result buf.new
         ≡ subtract_rule buf.old fs carrier_hz carrier_step_hz elements.now element_count fits.now fit_count }
 {
-    match cancel::subtract(
-        buf,
-        fs,
+    let given = GivenEstimate {
         carrier_hz,
         carrier_step_hz,
         elements,
         element_count,
         fits,
         fit_count,
-    ) {
-        SubtractAnswer::Refused(no) => no,
-        SubtractAnswer::Done => 0,
+    };
+    match cancel::subtract(buf, fs, &given) {
+        Ok(()) => 0,
+        Err(refusal) => u64::from(refusal),
     }
 }

@@ -5,7 +5,8 @@ ghost use Rattle.row.specs.Envelope.{row_length};
 ghost use Rattle.given.specs.Blocks.{blocks_in};
 ghost use Rattle.capi.specs.Rows.{row_called, row_call, classes_called, classes_call};
 
-use cancel::{ClassesAnswer, RowAnswer};
+use crate::answers::told;
+use cancel::GivenEstimate;
 use figures::{CLASSES_FIGURES, ROW_FIGURES, of_classes, of_row};
 
 #[unsafe(no_mangle)]
@@ -20,13 +21,11 @@ pub extern "C" fn cancel_amplitude_row(
     ensures { row_called result (row_length iq.now fs) row.new work.new figures.new
         ≡ row_call iq.now fs carrier_hz row.old work.old figures.old }
 {
-    match cancel::amplitude_row(iq, fs, carrier_hz, row, work) {
-        RowAnswer::Refused(no) => no,
-        RowAnswer::Done(made) => {
-            *figures = of_row(made);
-            0
-        }
-    }
+    told(
+        cancel::amplitude_row(iq, fs, carrier_hz, row, work),
+        figures,
+        of_row,
+    )
 }
 
 #[unsafe(no_mangle)]
@@ -45,21 +44,17 @@ pub extern "C" fn cancel_block_classes(
     ensures { classes_called result (blocks_in iq_len fs) classes.new figures.new
         ≡ classes_call iq_len fs carrier_hz carrier_step_hz elements.now element_count fits.now fit_count classes.old figures.old }
 {
-    match cancel::block_classes(
-        iq_len,
-        fs,
+    let given = GivenEstimate {
         carrier_hz,
         carrier_step_hz,
         elements,
         element_count,
         fits,
         fit_count,
-        classes,
-    ) {
-        ClassesAnswer::Refused(no) => no,
-        ClassesAnswer::Done(made) => {
-            *figures = of_classes(made);
-            0
-        }
-    }
+    };
+    told(
+        cancel::block_classes(iq_len, fs, &given, classes),
+        figures,
+        of_classes,
+    )
 }

@@ -4,7 +4,7 @@ ghost use Rattle.row.specs.Samples.{Singles};
 ghost use Rattle.fits.specs.Estimate.{strong_estimate};
 ghost use Rattle.capi.specs.Running.{run_called, run_call};
 
-use cancel::RunAnswer;
+use crate::answers::told;
 use figures::{RUN_FIGURES, of_run};
 
 // Each number that the buffer held is an f32, as in cancel::run.
@@ -22,11 +22,9 @@ pub extern "C" fn cancel_run(
         ≡ run_call buf.old fs hint_hz elements.old fits.old work.old figures.old }
     ensures singles { Singles buf.old }
 {
-    match cancel::run(buf, fs, hint_hz, elements, fits, work) {
-        RunAnswer::Refused(no) => no,
-        RunAnswer::Done(f) => {
-            *figures = of_run(f);
-            0
-        }
-    }
+    told(
+        cancel::run(buf, fs, hint_hz, elements, fits, work),
+        figures,
+        of_run,
+    )
 }

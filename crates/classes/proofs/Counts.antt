@@ -2,14 +2,16 @@
 use Prim.Native.Nat.{ℕ, zero, suc, ◌+◌, ◌≤◌, ◌<◌}
 use native.Mathlib.Numerals.{add-one}
 use native.Mathlib.Omega.{arith}
-use mathlib.Core.Path.{◌≡◌, refl, ap, ◌∙◌}
+use mathlib.Core.Path.{◌≡◌, refl, sym, ap, ◌∙◌}
 use mathlib.Core.Bool.{Bool, true, false, cond}
 use mathlib.Core.List.{List}
-use mir.Val.{bool_byte}
-use lib.ListN.{length, get_or}
+use lib.ListN.{length, get_or, take}
+use Rattle.std.specs.List.{count_by}
+use Rattle.std.proofs.lemmas.List.{take_all}
+use Rattle.std.proofs.lemmas.List.Sums.{count_by_more_yes, count_by_more_no}
 use lib.Ieee.{Float, nan, eq}
 use Rattle.lists.specs.Count.{count_to}
-use Rattle.lists.proofs.Count.{count_cong, count_most}
+use Rattle.lists.proofs.Count.{count_cong}
 use Rattle.classes.specs.declared.class.BlockClass.{BlockClass}
 use Rattle.classes.specs.declared.class.BlockClass.TheVariants.{Edge, Interior, Gap, Other}
 use Rattle.classes.specs.Class.{code_of, codes_of, is_class}
@@ -17,28 +19,19 @@ use Rattle.classes.specs.Classify.{counts_of, count_in, counts_in}
 use Rattle.classes.proofs.Codes.{code_tells}
 use Rattle.classes.proofs.Classes.{codes_length, code_at}
 
--- ---- the loop that counts: before it, a turn of it, and after it
-module _ (l : List Float) (k : Float) where
-  abbrev pub counted_to : ℕ → ℕ
-  counted_to n = count_to (λ b. eq (get_or l b nan) k) n
+-- how many of a list pass a test, by their places
+pub count_listed : (p : Float → Bool) (l : List Float) → count_by p l ≡ count_to (λ b. p (get_or l b nan)) (length l)
+unfolding count_to
+count_listed p l = ap (count_by p) (sym (take_all (length l) l (omega arith))) ∙ up (length l) (omega arith)
+  where
+    turn : (n : ℕ) → n < length l → (t : Bool) → p (get_or l n nan) ≡ t → count_by p (take n l) ≡ count_to (λ b. p (get_or l b nan)) n
+        → count_by p (take (n + 1) l) ≡ count_to (λ b. p (get_or l b nan)) n + cond t 1 0
+    turn n h true e c = count_by_more_yes p l n nan h e ∙ ap (λ k. k + 1) c
+    turn n h false e c = count_by_more_no p l n nan h e ∙ omega (arith, c)
 
-  pub count_none : 0 ≡ counted_to 0
-  unfolding count_to
-  count_none = refl
-
-  pub count_turn : (n count : ℕ) → count ≡ counted_to n → count + bool_byte (eq (get_or l n nan) k) ≡ counted_to (n + 1)
-  unfolding count_to
-  count_turn n count e = rw (add-one, e) (ap (λ i. counted_to n + i) (as_bit (eq (get_or l n nan) k)))
-    where
-      as_bit : (t : Bool) → bool_byte t ≡ cond t 1 0
-      as_bit true = refl
-      as_bit false = refl
-
-  pub count_few : (n count m : ℕ) → count ≡ counted_to n → n < m → count + bool_byte (eq (get_or l n nan) k) ≤ m
-  count_few n count m e h = omega (arith, count_turn n count e, count_most (λ b. eq (get_or l b nan) k) (n + 1))
-
-  pub count_done : (n count : ℕ) → count ≡ counted_to n → n ≤ length l → length l ≤ n → count ≡ counted_to (length l)
-  count_done n count e h g = let all : n ≡ length l = omega arith in rw all at e
+    up : (n : ℕ) → n ≤ length l → count_by p (take n l) ≡ count_to (λ b. p (get_or l b nan)) n
+    up zero h = refl
+    up (suc n) h = ap (λ k. count_by p (take k l)) (sym (add-one n)) ∙ turn n (omega arith) (p (get_or l n nan)) refl (up n (omega arith))
 
 -- ---- a slice that holds the numbers of a row of classes
 module _ (f : ℕ → BlockClass) (n : ℕ) (l : List Float) (e : l ≡ codes_of f n) where

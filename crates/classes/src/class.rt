@@ -13,15 +13,17 @@ pub enum BlockClass {
     Other,
 }
 
-// The number of a class.
-pub fn code(c: BlockClass) -> f64
-    ensures { result ≡ code_of c }
-{
-    match c {
-        BlockClass::Edge => 0.0,
-        BlockClass::Interior => 1.0,
-        BlockClass::Gap => 2.0,
-        BlockClass::Other => 3.0,
+// The number of a class: C lends the work slice as f64, and the classes stand in it.
+impl From<BlockClass> for f64 {
+    fn from(c: BlockClass) -> f64
+        ensures { result ≡ code_of c }
+    {
+        match c {
+            BlockClass::Edge => 0.0,
+            BlockClass::Interior => 1.0,
+            BlockClass::Gap => 2.0,
+            BlockClass::Other => 3.0,
+        }
     }
 }
 
@@ -30,6 +32,5 @@ pub fn is_class(row: &[f64], b: usize, c: BlockClass) -> bool
     requires { b < length row.now }
     ensures { result ≡ eq (get_or row.now b nan) (code_of c) }
 {
-    let k = code(c);
-    row[b] == k
+    row[b] == f64::from(c)
 }

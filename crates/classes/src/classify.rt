@@ -1,18 +1,20 @@
 // The classes of a recording's blocks, by the times of an estimate. Rust: classify_blocks, lines 418 to 468 of
 // cancel.rs, whose row of classes is a lent slice here that holds the number of each.
-ghost use Rattle.std.specs.Prelude.{◌≡◌, true, ◌*◌, ◌≤◌, length};
-ghost use Rattle.row.specs.Window.{Rate, window_of};
-ghost use Rattle.elements.specs.Element.{ELEMENT, elements_in};
-ghost use Rattle.fits.specs.List.{FIT, fits_in};
+ghost use Rattle.std.specs.Prelude.{ℕ, ◌≡◌, ◌+◌, ◌*◌, ◌≤◌, Bool, length, Float};
+ghost use Rattle.row.specs.Window.{centre_of};
+ghost use Rattle.elements.specs.Element.{elements_in};
+ghost use Rattle.fits.specs.List.{fits_in};
 ghost use Rattle.classes.specs.declared.class.BlockClass.TheVariants.{Edge, Interior, Other};
 ghost use Rattle.classes.specs.Class.{code_of, codes_of};
-ghost use Rattle.classes.specs.Classify.{times_of, blocks_of, first_from, past_last, in_range, inside, at_edge, on_rim, in_turn, class_of, count_in, counts_in};
-ghost use Rattle.classes.specs.Inner.{to_centre, labelled, amid, element_labelled, fit_labelled};
+ghost use Rattle.classes.specs.Classify.{times_of, blocks_of, in_range, inside, at_edge, on_rim, class_of, count_in, counts_in};
+ghost use Rattle.classes.specs.Inner.{labelled, amid, element_labelled, fit_labelled};
 
-use crate::class::{BlockClass, code};
+use crate::class::BlockClass;
+use crate::windows::Windows;
 use constants::{EDGE_ZONE_S, RIM_S, RISE_S};
-use elements::{KeyedElement, element_at};
-use fits::fit_at;
+use elements::{Elements, KeyedElement, element_at};
+use fits::{Fits, fit_at};
+use row::SampleRate;
 
 // How many blocks have each class.
 #[derive(Clone, Copy)]
@@ -23,229 +25,152 @@ pub struct ClassCounts {
     pub other: usize,
 }
 
-// From a block's first sample to its centre: half of what is between its first sample and its last.
-fn to_centre(len: usize) -> f64
-    requires { len ≤ 512 }
-    ensures { result ≡ to_centre len }
-{
-    (float::exact(len) - 1.0) / 2.0
-}
-
-// Rust: `a` in `range`.
-fn first_from(len: usize, lo: f64) -> usize
-    requires { len ≤ 512 }
-    ensures { result ≡ first_from len lo }
-{
-    let l = float::exact(len);
-    float::to_whole(float::max(float::ceil((lo - to_centre(len)) / l), 0.0))
-}
-
-// Rust: `b` in `range`.
-fn past_last(len: usize, hi: f64) -> usize
-    requires { len ≤ 512 }
-    ensures { result ≡ past_last len hi }
-{
-    let l = float::exact(len);
-    float::to_whole(float::max(float::floor((hi - to_centre(len)) / l) + 1.0, 0.0))
-}
-
-// Rust: `vec![BlockClass::Gap; blocks]`.
-fn label_all(x: f64, class: &mut [f64])
-    ensures { class.new ≡ labelled class.old (λ b. true) x }
-{
-    let n = class.len();
-    for b in 0..n {
-        class[b] = x;
-    }
-}
-
 // Rust: `range` and the loop over it. Its start and its end can lie past the blocks: the end is cut to them, and from a
 // start that is not before the end there is nothing to label.
-fn label_range(len: usize, lo: f64, hi: f64, x: f64, class: &mut [f64])
-    requires { len ≤ 512 }
-    ensures { class.new ≡ labelled class.old (in_range len lo hi) x }
+fn label_range(w: Windows, lo: f64, hi: f64, c: BlockClass, class: &mut [f64])
+    ensures { class.new ≡ labelled class.old (in_range w.len lo hi) (code_of c) }
 {
-    let a = first_from(len, lo);
-    let e = float::least(past_last(len, hi), class.len());
-    for b in a..e {
-        class[b] = x;
+    let a = w.first_from(lo);
+    let e = w.past_last(hi).min(class.len());
+    if a < e {
+        class[a..e].fill(f64::from(c));
     }
 }
 
-// Rust: the loop over the blocks of an interior. Where a block starts is added up, from one product before the loop.
-// The first block can lie past the end, with a number up to 2^64 − 1: for that product it is cut to the end.
-fn label_amid(len: usize, lo: f64, hi: f64, x: f64, class: &mut [f64])
-    requires len_bound { len ≤ 512 }
-    requires class_len_bound { length class.old ≤ 131072 }
-    ensures { class.new ≡ labelled class.old (amid len lo hi) x }
+// Each block of a slice whose centre passes a test. The first block starts at sample `first`; where the others start is
+// added up.
+fn label_where<F: Fn(f64) -> bool>(
+    w: Windows,
+    first: usize,
+    c: BlockClass,
+    passes: F,
+    class: &mut [f64],
+)
+    requires starts_bound { first + length class.old * w.len ≤ 67108864 }
+    requires callable { F.IsAlwaysCallable passes }
+    ensures { (p : Float → Bool) → ((k : Float) (t : Bool) → F.post passes k t → t ≡ p k)
+        → class.new ≡ labelled class.old (λ b. p (centre_of (first + b * w.len) w.len)) (code_of c) }
 {
-    let a = first_from(len, lo);
-    let e = float::least(past_last(len, hi), class.len());
-    let half = to_centre(len);
-    let mut from = float::least(a, e) * len;
-    for b in a..e {
-        let centre = float::exact(from) + half;
-        if centre > lo && centre < hi {
-            class[b] = x;
+    let half = w.to_centre();
+    let x = f64::from(c);
+    let mut from = first;
+    for block in class.iter_mut() {
+        if passes(float::exact(from) + half) {
+            *block = x;
         }
-        from = from + len;
+        from += w.len;
+    }
+}
+
+// Rust: the loop over the blocks of an interior. The row stands in the slice that C lends, so that its length is a
+// clause here, in label_interior, label_fit and label_rim, and no type's.
+fn label_amid(w: Windows, lo: f64, hi: f64, c: BlockClass, class: &mut [f64])
+    requires { length class.old ≤ 131072 }
+    ensures { class.new ≡ labelled class.old (amid w.len lo hi) (code_of c) }
+{
+    let a = w.first_from(lo);
+    let e = w.past_last(hi).min(class.len());
+    if a < e {
+        let amid = |centre| centre > lo && centre < hi;
+        label_where(w, a * w.len, c, amid, &mut class[a..e]);
     }
 }
 
 // Rust: the loop over the elements, of one.
-fn label_element(fs: f64, len: usize, e: KeyedElement, class: &mut [f64])
-    requires rate { Rate fs }
-    requires len_value { len ≡ window_of fs }
-    ensures { class.new ≡ element_labelled fs e class.old }
+fn label_element(w: Windows, e: KeyedElement, class: &mut [f64])
+    ensures { class.new ≡ element_labelled w.rate.hz e class.old }
 {
-    let r = RISE_S * fs;
-    let x = code(BlockClass::Other);
-    label_range(len, e.start - 3.0 * r, e.end + 3.0 * r, x, class);
-}
-
-// Rust: the first half of the loop over the fits, of one.
-fn label_interior(fs: f64, len: usize, e: KeyedElement, class: &mut [f64])
-    requires rate { Rate fs }
-    requires len_value { len ≡ window_of fs }
-    requires class_len_bound { length class.old ≤ 131072 }
-    ensures { class.new ≡ labelled class.old (inside fs (times_of e)) (code_of Interior) }
-{
-    let r = RISE_S * fs;
-    if e.end - e.start > 4.0 * r {
-        let x = code(BlockClass::Interior);
-        label_amid(len, e.start + 2.0 * r, e.end - 2.0 * r, x, class);
-    }
-}
-
-// Rust: the loop over `[s, e]`, of one edge.
-fn label_edge(fs: f64, len: usize, edge: f64, class: &mut [f64])
-    requires rate { Rate fs }
-    requires len_value { len ≡ window_of fs }
-    ensures { class.new ≡ labelled class.old (at_edge fs edge) (code_of Edge) }
-{
-    let x = code(BlockClass::Edge);
+    let r = RISE_S * w.rate.hz;
     label_range(
-        len,
-        edge - EDGE_ZONE_S * fs,
-        edge + EDGE_ZONE_S * fs,
-        x,
+        w,
+        e.start - 3.0 * r,
+        e.end + 3.0 * r,
+        BlockClass::Other,
         class,
     );
 }
 
+// Rust: the first half of the loop over the fits, of one.
+fn label_interior(w: Windows, e: KeyedElement, class: &mut [f64])
+    requires { length class.old ≤ 131072 }
+    ensures { class.new ≡ labelled class.old (inside w.rate.hz (times_of e)) (code_of Interior) }
+{
+    let r = RISE_S * w.rate.hz;
+    if e.end - e.start > 4.0 * r {
+        label_amid(
+            w,
+            e.start + 2.0 * r,
+            e.end - 2.0 * r,
+            BlockClass::Interior,
+            class,
+        );
+    }
+}
+
+// Rust: the loop over `[s, e]`, of one edge.
+fn label_edge(w: Windows, at: f64, class: &mut [f64])
+    ensures { class.new ≡ labelled class.old (at_edge w.rate.hz at) (code_of Edge) }
+{
+    let zone = EDGE_ZONE_S * w.rate.hz;
+    label_range(w, at - zone, at + zone, BlockClass::Edge, class);
+}
+
 // Rust: the loop over the fits, of one.
-fn label_fit(fs: f64, len: usize, e: KeyedElement, class: &mut [f64])
-    requires rate { Rate fs }
-    requires len_value { len ≡ window_of fs }
-    requires class_len_bound { length class.old ≤ 131072 }
-    ensures { class.new ≡ fit_labelled fs e class.old }
+fn label_fit(w: Windows, e: KeyedElement, class: &mut [f64])
+    requires { length class.old ≤ 131072 }
+    ensures { class.new ≡ fit_labelled w.rate.hz e class.old }
 {
-    label_interior(fs, len, e, class);
-    label_edge(fs, len, e.start, class);
-    label_edge(fs, len, e.end, class);
-}
-
-// Rust: the loop over the elements, of those found.
-fn label_elements(fs: f64, len: usize, elements: &[f64], count: usize, class: &mut [f64])
-    requires rate { Rate fs }
-    requires len_value { len ≡ window_of fs }
-    requires count_in_bounds { ELEMENT * count ≤ length elements.now }
-    ensures { class.new ≡ in_turn (element_labelled fs) (elements_in elements.now count) class.old }
-{
-    for k in 0..count {
-        let e = element_at(elements, k);
-        label_element(fs, len, e, class);
-    }
-}
-
-// Rust: the loop over the elements, of those of the fits.
-fn label_fitted(fs: f64, len: usize, fits: &[f64], count: usize, class: &mut [f64])
-    requires rate { Rate fs }
-    requires len_value { len ≡ window_of fs }
-    requires count_in_bounds { FIT * count ≤ length fits.now }
-    ensures { class.new ≡ in_turn (λ f. element_labelled fs f.element) (fits_in fits.now count) class.old }
-{
-    for k in 0..count {
-        let f = fit_at(fits, k);
-        label_element(fs, len, f.element, class);
-    }
-}
-
-// Rust: the loop over the fits.
-fn label_fits(fs: f64, len: usize, fits: &[f64], count: usize, class: &mut [f64])
-    requires rate { Rate fs }
-    requires len_value { len ≡ window_of fs }
-    requires count_in_bounds { FIT * count ≤ length fits.now }
-    requires class_len_bound { length class.old ≤ 131072 }
-    ensures { class.new ≡ in_turn (λ f. fit_labelled fs f.element) (fits_in fits.now count) class.old }
-{
-    for k in 0..count {
-        let f = fit_at(fits, k);
-        label_fit(fs, len, f.element, class);
-    }
+    label_interior(w, e, class);
+    label_edge(w, e.start, class);
+    label_edge(w, e.end, class);
 }
 
 // Rust: the last loop.
-fn label_rim(fs: f64, len: usize, n: usize, class: &mut [f64])
-    requires rate { Rate fs }
-    requires len_value { len ≡ window_of fs }
+fn label_rim(w: Windows, n: usize, class: &mut [f64])
     requires n_bound { n ≤ 1048576 }
     requires class_len_bound { length class.old ≤ 131072 }
-    ensures { class.new ≡ labelled class.old (on_rim fs n) (code_of Other) }
+    ensures { class.new ≡ labelled class.old (on_rim w.rate.hz n) (code_of Other) }
 {
-    let rim = RIM_S * fs;
+    let rim = RIM_S * w.rate.hz;
     let last = float::exact(n) - rim;
-    let half = to_centre(len);
-    let x = code(BlockClass::Other);
-    let blocks = class.len();
-    let mut from: usize = 0;
-    for b in 0..blocks {
-        let centre = float::exact(from) + half;
-        if centre < rim || centre > last {
-            class[b] = x;
-        }
-        from = from + len;
-    }
+    let on_rim = |centre| centre < rim || centre > last;
+    label_where(w, 0, BlockClass::Other, on_rim, class);
 }
 
-// Rust: classify_blocks. The estimate is its elements and fits, each in a list with its count.
+// Rust: classify_blocks. The estimate is its elements and fits. The elements of the fits label as the others do, then
+// each fit its interior and its edges.
 pub fn classify_blocks(
-    fs: f64,
+    rate: SampleRate,
     n: usize,
-    elements: &[f64],
-    element_count: usize,
-    fits: &[f64],
-    fit_count: usize,
+    elements: &Elements,
+    fits: &Fits,
     class: &mut [f64],
 )
-    requires rate { Rate fs }
     requires n_bound { n ≤ 1048576 }
-    requires element_count_in_bounds { ELEMENT * element_count ≤ length elements.now }
-    requires fit_count_in_bounds { FIT * fit_count ≤ length fits.now }
-    requires class_len { length class.old ≡ blocks_of fs n }
+    requires class_len { length class.old ≡ blocks_of rate.hz n }
     ensures { class.new
-        ≡ codes_of (class_of fs n (fits_in fits.now fit_count) (elements_in elements.now element_count)) (blocks_of fs n) }
+        ≡ codes_of (class_of rate.hz n (fits_in fits.now.numbers.now fits.now.count) (elements_in elements.now.numbers.now elements.now.count)) (blocks_of rate.hz n) }
 {
-    let len = 8 * row::edge_step(fs);
-    let gap = code(BlockClass::Gap);
-    label_all(gap, class);
-    label_fitted(fs, len, fits, fit_count, class);
-    label_elements(fs, len, elements, element_count, class);
-    label_fits(fs, len, fits, fit_count, class);
-    label_rim(fs, len, n, class);
+    let w = Windows::new(rate);
+    class.fill(f64::from(BlockClass::Gap));
+    for place in fits.each() {
+        label_element(w, fit_at(place, 0).element, class);
+    }
+    for place in elements.each() {
+        label_element(w, element_at(place, 0), class);
+    }
+    for place in fits.each() {
+        label_fit(w, fit_at(place, 0).element, class);
+    }
+    label_rim(w, n, class);
 }
 
 // How many blocks have the class c, in a slice that holds the number of each block's class.
 pub fn count_class(class: &[f64], c: BlockClass) -> usize
     ensures { result ≡ count_in class.now c }
 {
-    let k = code(c);
-    let blocks = class.len();
-    let mut count: usize = 0;
-    for b in 0..blocks {
-        count = count + (class[b] == k) as usize;
-    }
-    count
+    let code = f64::from(c);
+    class.iter().filter(|x| **x == code).count()
 }
 
 // How many blocks have each class.

@@ -3,6 +3,8 @@
 
 pub mod class;
 pub mod classify;
+pub mod windows;
 
-pub use class::{BlockClass, code, is_class};
+pub use class::{BlockClass, is_class};
 pub use classify::{ClassCounts, classify_blocks, count_class, count_classes};
+pub use windows::Windows;

@@ -1,8 +1,9 @@
 // A complex number of two f64: a value with its own operations, each made of single rounded operations in the order
 // of num_complex.
 ghost use Rattle.std.specs.Prelude.{◌≡◌};
-ghost use Rattle.trig.specs.Circle.{quarter_sines};
 ghost use Rattle.complex.specs.Value.{c_new, c_add, c_sub, c_mul, c_conj, c_norm_sqr, c_norm, c_arg, c_div, c_polar};
+
+use trig::Sines;
 
 #[derive(Clone, Copy)]
 pub struct Complex {
@@ -20,11 +21,10 @@ impl Complex {
     }
 
     // w at the angle t. The sine table is lent, so that it is made once and not at each call.
-    pub fn from_polar(w: f64, t: f64, sine: &[f64; 1025]) -> Complex
-        requires { sine.now ≡ quarter_sines }
+    pub fn from_polar(w: f64, t: f64, sine: &Sines) -> Complex
         ensures { result ≡ c_polar w t }
     {
-        let p = trig::sin_cos(t, sine);
+        let p = sine.sin_cos(t);
         Complex {
             re: w * p.cos,
             im: w * p.sin,

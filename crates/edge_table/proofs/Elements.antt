@@ -1,5 +1,7 @@
 -- The rows of 01's edge table that speak of elements. At step 1 and carrier 0 the row of a recording of zeros and ones
 -- is how many ones each eight samples have, over 8; what is found is computed from that. Assumes nothing.
+use Rattle.std.proofs.Common.{Some}
+use Rattle.std.specs.declared.option.Option.{Option}
 use Prim.Native.Nat.{ℕ, zero, suc, ◌+◌, ◌-◌, ◌/◌, ◌^◌, ◌≤◌, ◌<◌}
 use native.Mathlib.Nat.{div-one}
 use native.Mathlib.Omega.{arith}
@@ -19,7 +21,6 @@ use Rattle.row.specs.Window.{step_of}
 use Rattle.row.specs.Envelope.{row_of, row_length}
 use Rattle.lists.specs.Firsts.{firsts}
 use Rattle.lists.proofs.Firsts.{length_firsts, get_d_firsts, firsts_cong}
-use Rattle.rank.specs.declared.Percentile.TheVariants.{Value}
 use Rattle.rank.specs.Order.{is_minus_zero, precedes, before, up_to}
 use Rattle.lists.specs.Count.{count_to}
 use Rattle.rank.specs.Select.{rank_of, percentile_of}
@@ -29,8 +30,6 @@ use Rattle.elements.specs.declared.element.KeyedElement.{KeyedElement}
 use Rattle.elements.specs.declared.keying.Found.{Found}
 use Rattle.elements.specs.Keying.{upward, downward, pending, row_key_downs, crossed_at, element_of, is_long, long, airtime_of, listed_of, short_of, counts, elements_of, found_to, elements_to}
 use Rattle.lists.specs.Those.{those}
-use Rattle.elements.specs.declared.threshold.Threshold.{Threshold}
-use Rattle.elements.specs.declared.threshold.Threshold.TheVariants.{At}
 use Rattle.elements.specs.Find.{half_of, threshold_of, found_at, elements_at, found_of, elements_found}
 use Rattle.elements.proofs.KeyDowns.{either}
 use Rattle.elements.proofs.Same.{found_same, elements_same}
@@ -74,7 +73,7 @@ upto_top : (m : ℕ) → m ≤ 8 → not (precedes top (fraction m 8)) ≡ true
 unfolding precedes is_minus_zero lt eq is_nan fraction round
 upto_top = at_nine (λ m. not (precedes top (fraction m 8)) ≡ true) refl refl refl refl refl refl refl refl refl
 
-half_top : half_of (Value top) ≡ At half
+half_top : half_of (Some top) ≡ Some half
 unfolding fraction round lt mul of_bits
 half_top = refl
 
@@ -112,14 +111,14 @@ module _ (m : ℕ → ℕ) (small : (i : ℕ) → m i ≤ 8) (n : ℕ) where
       (λ i h. ap (λ (x : Float). not (precedes top x)) (get_d_firsts (λ k. fraction (m k) 8) n i nan h) ∙ upto_top (m i) (small i))
       ∙ count_all n)
 
-  percentile_top : 0 < n → count_to (λ i. ltb (m i) 8) n ≤ rank_of n EDGE_PERCENTILE → percentile_of eights EDGE_PERCENTILE ≡ Value top
+  percentile_top : 0 < n → count_to (λ i. ltb (m i) 8) n ≤ rank_of n EDGE_PERCENTILE → percentile_of eights EDGE_PERCENTILE ≡ Some top
   unfolding eights
   percentile_top some enough =
       let size = length_firsts (λ k. fraction (m k) 8) n in
       percentile_counts eights EDGE_PERCENTILE top (held eights (row_fits m n)) (eighth_fits 8) (rw size some) (rw (size, before_top) enough)
       (rw (size, all_upto) (rank_lt n EDGE_PERCENTILE some))
 
-module _ (row : ℕ → Float) (fs : Float) {last last' step step' : ℕ} {p p' : Threshold} (l : last ≡ last') (s : step ≡ step') (t : p ≡ p') where
+module _ (row : ℕ → Float) (fs : Float) {last last' step step' : ℕ} {p p' : (Option Float)} (l : last ≡ last') (s : step ≡ step') (t : p ≡ p') where
   found_by : found_at row last step fs p ≡ found_at row last' step' fs p'
   found_by = rw (l, s, t)
 
@@ -131,7 +130,7 @@ module _ (a e n : ℕ) (few : n ≤ 2 ^ 20) (some : 8 ≤ n) (enough : count_to 
   abbrev iq : List Float
   iq = ones_of a e n
 
-  threshold_ones : threshold_of iq (of 3000) (of 0) ≡ At half
+  threshold_ones : threshold_of iq (of 3000) (of 0) ≡ Some half
   unfolding threshold_of eights
   threshold_ones =
       ap (λ (l : List Float). half_of (percentile_of l EDGE_PERCENTILE))

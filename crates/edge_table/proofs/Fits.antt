@@ -1,5 +1,6 @@
 -- The rows of 01's edge table that speak of fits. Over an interior whose derotated samples are all 1 the sums of the
 -- fit are those of known numbers, and these are computed. Assumes nothing.
+use Rattle.std.proofs.Common.{Some, None}
 use Prim.Native.Nat.{ℕ, zero, suc, ◌+◌, ◌-◌, ◌*◌, ◌/◌, ◌^◌, ◌≤◌, ◌<◌}
 use native.Mathlib.Omega.{arith}
 use mathlib.Core.Path.{◌≡◌, refl, ap, ◌∙◌}
@@ -26,10 +27,8 @@ use Rattle.elements.specs.declared.element.KeyedElement.{KeyedElement}
 use Rattle.constants.specs.Constants.{RISE_S, MIN_INTERIOR_S, SLOPE_BLOCK_S}
 use Rattle.lists.specs.Those.{those}
 use Rattle.elements.specs.Find.{elements_found}
-use Rattle.interiors.specs.declared.interior.Interior.TheVariants.{Inside, Nothing}
-use Rattle.interiors.specs.Interior.{lo_of, hi_of, min_len, unfit, interior_of, slope_block}
+use Rattle.interiors.specs.Interior.{inside, lo_of, hi_of, min_len, unfit, interior_of, slope_block}
 use Rattle.fits.specs.declared.fit.ElementFit.{ElementFit}
-use Rattle.fits.specs.declared.fit.Fit.TheVariants.{Fitted, Skipped}
 use Rattle.lists.specs.Sums.{f_sum}
 use Rattle.interiors.specs.Line.{time_of, line_slope}
 use Rattle.interiors.specs.Slope.{slope_mean, phase_on, phase_of, slope_of}
@@ -96,8 +95,8 @@ record Level (i0 len : ℕ) (ref : Float) : Type 0 where
   gain : c_div (c_sum (λ j. c_mul (real 1) (c_polar (hann len j) (tilt_of plus_zero ref (i0 + j)))) 0 len) (hann_sum len) ≡ real 1
   weight : le (hann_sum len) plus_zero ≡ false
 
-fit_unit : (iq : List Float) (cyc : Float) (e : KeyedElement) (i0 len : ℕ) (ref : Float) → interior_of (samples iq) (of 3000) e.start e.end ≡ Inside i0 (i0 + len) → Level i0 len ref
-    → ((j : ℕ) → j < len → derot iq cyc (i0 + j) ≡ real 1) → fit_of iq (of 3000) cyc e ≡ Fitted (unit_fit e ref)
+fit_unit : (iq : List Float) (cyc : Float) (e : KeyedElement) (i0 len : ℕ) (ref : Float) → interior_of (samples iq) (of 3000) e.start e.end ≡ inside i0 (i0 + len) → Level i0 len ref
+    → ((j : ℕ) → j < len → derot iq cyc (i0 + j) ≡ real 1) → fit_of iq (of 3000) cyc e ≡ Some (unit_fit e ref)
 unfolding fit_of fit_within fit_inside
 fit_unit iq cyc e i0 len ref inside level unit =
     let all : i0 + len - i0 ≡ len = omega arith in
@@ -120,8 +119,8 @@ unfolding is_one
 ones_unit a e n k few h low high = derot_ones a e n few k h ∙ rw (le-leb a k low, le-leb k e high)
 
 -- an element of the ones at a..e of 300
-element_unit : (a e i0 len : ℕ) (el : KeyedElement) (ref : Float) → interior_of 300 (of 3000) el.start el.end ≡ Inside i0 (i0 + len) → Level i0 len ref → a ≤ i0 → i0 + len ≤ suc e → i0 + len ≤ 300
-    → fit_of (ones_of a e 300) (of 3000) (of 0 ⊘ of 3000) el ≡ Fitted (unit_fit el ref)
+element_unit : (a e i0 len : ℕ) (el : KeyedElement) (ref : Float) → interior_of 300 (of 3000) el.start el.end ≡ inside i0 (i0 + len) → Level i0 len ref → a ≤ i0 → i0 + len ≤ suc e → i0 + len ≤ 300
+    → fit_of (ones_of a e 300) (of 3000) (of 0 ⊘ of 3000) el ≡ Some (unit_fit el ref)
 element_unit a e i0 len el ref inside level low high short =
     let size : samples (ones_of a e 300) ≡ 300 = rw (length_ones a e 300) in
     rw cycles_3000
@@ -142,9 +141,9 @@ to_160 = element (fraction 995 10) (fraction 1605 10) 96 158
 abbrev to_159 : KeyedElement
 to_159 = element (fraction 995 10) (fraction 1595 10) 96 157
 
-interiors : (interior_of 300 (of 3000) (fraction 995 10) (fraction 1995 10) ≡ Inside 115 184)
-    × (interior_of 300 (of 3000) (fraction 995 10) (fraction 1605 10) ≡ Inside 115 145)
-    × (interior_of 300 (of 3000) (fraction 995 10) (fraction 1595 10) ≡ Nothing)
+interiors : (interior_of 300 (of 3000) (fraction 995 10) (fraction 1995 10) ≡ inside 115 184)
+    × (interior_of 300 (of 3000) (fraction 995 10) (fraction 1605 10) ≡ inside 115 145)
+    × (interior_of 300 (of 3000) (fraction 995 10) (fraction 1595 10) ≡ None)
 unfolding interior_of unfit lo_of hi_of min_len RISE_S MIN_INTERIOR_S floor_of ceil_of whole_by fraction round add sub mul lt of_int of_bits to_unsigned
 interiors = (refl, refl, refl)
 
@@ -156,16 +155,16 @@ level_30 : Level 115 30 (fraction 1295 10)
 unfolding ref_sample_of line_slope c_sum tilt_of rem_euclid_of rem sin_of hann_sum f_sum hann cos_of sine_at within sine_table PI TAU abs_of round_of whole_by fraction round add sub mul div neg le lt eq of_int of_bits to_signed
 level_30 = record { middle = refl; slope = refl; gain = refl; weight = refl }
 
-outside_60 : fit_of (ones 159) (of 3000) (of 0 ⊘ of 3000) to_159 ≡ Skipped
+outside_60 : fit_of (ones 159) (of 3000) (of 0 ⊘ of 3000) to_159 ≡ None
 unfolding fit_of fit_within
 outside_60 = let size : samples (ones 159) ≡ 300 = rw (length_ones 100 159 300) in rw (size, interiors.2)
 
 -- of the one element found
-one_fit : (e : ℕ) (el : KeyedElement) (f : ElementFit) → elements_found (ones e) (of 3000) (of 0) ≡ (el ∷ []) → fit_of (ones e) (of 3000) (of 0 ⊘ of 3000) el ≡ Fitted f → Fits (ones e) (f ∷ []) []
+one_fit : (e : ℕ) (el : KeyedElement) (f : ElementFit) → elements_found (ones e) (of 3000) (of 0) ≡ (el ∷ []) → fit_of (ones e) (of 3000) (of 0 ⊘ of 3000) el ≡ Some f → Fits (ones e) (f ∷ []) []
 unfolding fits_found fits_of skipped_of those
 one_fit e el f found fit = (rw (found, fit), rw (found, fit))
 
-no_fit : (e : ℕ) (el : KeyedElement) → elements_found (ones e) (of 3000) (of 0) ≡ (el ∷ []) → fit_of (ones e) (of 3000) (of 0 ⊘ of 3000) el ≡ Skipped → Fits (ones e) [] (el ∷ [])
+no_fit : (e : ℕ) (el : KeyedElement) → elements_found (ones e) (of 3000) (of 0) ≡ (el ∷ []) → fit_of (ones e) (of 3000) (of 0 ⊘ of 3000) el ≡ None → Fits (ones e) [] (el ∷ [])
 unfolding fits_found fits_of skipped_of those
 no_fit e el found fit = (rw (found, fit), rw (found, fit))
 

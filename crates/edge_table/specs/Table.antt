@@ -1,7 +1,8 @@
 -- 01's edge table, as one record: a field is a row, in 01's order and under 01's words. The rows speak of the
 -- definitions that the contracts of the calls cite. `of n` is the whole number n as an f64, `fraction a c` the f64
 -- nearest to a / c, and a..e includes e. Proved by `edge_table` of proofs/Table.antt. Definitions only.
-use Rattle.std.specs.Prelude.{ℕ, ◌^◌, ◌<◌, ◌≡◌, Bool, false, ◌&&◌, ◌||◌, cond, List, [], ◌∷◌, map, leb, Float}
+use Rattle.std.specs.Prelude.{ℕ, ◌^◌, ◌<◌, ◌≡◌, Bool, false, ◌&&◌, ◌||◌, cond, List, [], ◌∷◌, map, leb, Float, Some}
+use Rattle.std.specs.declared.option.Option.{Option}
 use Rattle.std.specs.Float.{inf}
 use Rattle.std.specs.Float.Ieee.{neg}
 use Rattle.float.specs.Ops.{◌⊗◌, of, fraction}
@@ -23,8 +24,6 @@ use Rattle.synth.specs.Span.{span_of}
 use Rattle.classes.specs.declared.class.BlockClass.{BlockClass}
 use Rattle.classes.specs.declared.class.BlockClass.TheVariants.{Edge, Interior, Gap, Other}
 use Rattle.classes.specs.Classify.{blocks_of, class_of, counts_of}
-use Rattle.measure.specs.declared.offset.Offset.{Offset}
-use Rattle.measure.specs.declared.offset.Offset.TheVariants.{Hz}
 use Rattle.measure.specs.declared.evidence.SecondCarrierEvidence.{SecondCarrierEvidence}
 use Rattle.measure.specs.declared.hypothesis.Hypothesis.TheVariants.{OneSignal, TwoSignalCw, Unresolved}
 use Rattle.measure.specs.Hypothesis.{hypothesis_of}
@@ -77,7 +76,7 @@ Classes fits elements =
     × (counts_of (class_of fs 3000 fits elements) 375 ≡ record { edge = 3; interior = 5; gap = 201; other = 166 })
 
 -- ---- evidence
-abbrev pub evidence : ℕ → Float → Offset → Float → SecondCarrierEvidence
+abbrev pub evidence : ℕ → Float → Option Float → Float → SecondCarrierEvidence
 evidence gaps hot offset coherence =
     record { gap_blocks = gaps; hot_fraction = hot; offset_hz = offset; coherence = coherence }
 
@@ -116,16 +115,16 @@ pub record EdgeTable : Type 0 where
       → Classes (f ∷ []) [] × Classes (f ∷ []) (f.element ∷ [])
   -- Hot 0.15 or 0.75 with coherence 0.8 and offset 10 or −150: TwoSignalCw.
   pub two_signals : (gaps : ℕ)
-      → (hypothesis_of (evidence gaps (fraction 15 100) (Hz (of 10)) (fraction 8 10)) ≡ TwoSignalCw (of 10))
-      × (hypothesis_of (evidence gaps (fraction 15 100) (Hz (neg (of 150))) (fraction 8 10)) ≡ TwoSignalCw (neg (of 150)))
-      × (hypothesis_of (evidence gaps (fraction 75 100) (Hz (of 10)) (fraction 8 10)) ≡ TwoSignalCw (of 10))
-      × (hypothesis_of (evidence gaps (fraction 75 100) (Hz (neg (of 150))) (fraction 8 10)) ≡ TwoSignalCw (neg (of 150)))
+      → (hypothesis_of (evidence gaps (fraction 15 100) (Some (of 10)) (fraction 8 10)) ≡ TwoSignalCw (of 10))
+      × (hypothesis_of (evidence gaps (fraction 15 100) (Some (neg (of 150))) (fraction 8 10)) ≡ TwoSignalCw (neg (of 150)))
+      × (hypothesis_of (evidence gaps (fraction 75 100) (Some (of 10)) (fraction 8 10)) ≡ TwoSignalCw (of 10))
+      × (hypothesis_of (evidence gaps (fraction 75 100) (Some (neg (of 150))) (fraction 8 10)) ≡ TwoSignalCw (neg (of 150)))
   -- Hot 0.14: OneSignal, whatever the rest.
-  pub one_signal : (gaps : ℕ) (offset : Offset) (coherence : Float) → hypothesis_of (evidence gaps (fraction 14 100) offset coherence) ≡ OneSignal
+  pub one_signal : (gaps : ℕ) (offset : Option Float) (coherence : Float) → hypothesis_of (evidence gaps (fraction 14 100) offset coherence) ≡ OneSignal
   -- Offset 9: Unresolved.
   pub unresolved : (gaps : ℕ)
-      → (hypothesis_of (evidence gaps (fraction 15 100) (Hz (of 9)) (fraction 8 10)) ≡ Unresolved)
-      × (hypothesis_of (evidence gaps (fraction 75 100) (Hz (of 9)) (fraction 8 10)) ≡ Unresolved)
+      → (hypothesis_of (evidence gaps (fraction 15 100) (Some (of 9)) (fraction 8 10)) ≡ Unresolved)
+      × (hypothesis_of (evidence gaps (fraction 75 100) (Some (of 9)) (fraction 8 10)) ≡ Unresolved)
   -- Edge blocks empty: ratio +∞, not clean. Of every recording and estimate, at any rate.
   pub no_edge_blocks : (iq : List Float) (rate hz : Float) (fits : List ElementFit) (elements : List KeyedElement)
       → (residual_check_of iq rate hz fits elements).edge_blocks ≡ 0

@@ -1,14 +1,12 @@
 -- The amplitude row in the work slice, and in a list that hands it out, a number a place. Assumes nothing.
-use Prim.Native.Nat.{ℕ, ◌+◌, ◌-◌, ◌*◌, ◌/◌, ◌^◌, ◌≤◌, ◌<◌}
-use native.Mathlib.Omega.{arith}
-use mathlib.Core.Path.{◌≡◌, refl, ap, ◌∙◌}
-use mathlib.Core.List.{List, []}
-use lib.ListN.{length, get_or, take, drop}
-use lib.Ieee.{Float, nan}
+use Rattle.std.proofs.Common.{◌≡◌, ℕ, ◌+◌, ◌-◌, ◌*◌, ◌/◌, ◌^◌, ◌≤◌, ◌<◌, List, [], ◌++◌, length, take, drop, Some, None, refl, ap, ◌∙◌, arith, length-append, length-drop}
+use Rattle.std.proofs.Math.Seq.{take-append_seam}
+use Rattle.std.specs.Prelude.{Float}
+use Rattle.std.specs.declared.option.Option.{Option}
 use Rattle.lists.specs.Fill.{fill}
 use Rattle.lists.specs.Firsts.{firsts}
 use Rattle.lists.proofs.Firsts.{length_firsts}
-use Rattle.lists.proofs.Records.{copied_handed}
+use Rattle.lists.proofs.Records.{numbers_handed}
 use Rattle.float.specs.Ops.{◌⊘◌}
 use Rattle.complex.specs.Rows.{z_fill}
 use Rattle.row.specs.Window.{step_of, window_of, samples, blocks, step_blocks}
@@ -19,8 +17,6 @@ use Rattle.row.proofs.Steps.{step_low}
 use Rattle.row.proofs.Means.{blocks_short}
 use Rattle.row.proofs.Rows.{row_part, row_is, row_none, row_some}
 use Rattle.elements.specs.declared.amplitude.AmplitudeRow.{AmplitudeRow}
-use Rattle.elements.specs.declared.threshold.Threshold.{Threshold}
-use Rattle.elements.specs.declared.threshold.Threshold.TheVariants.{At, Absent}
 use Rattle.lists.specs.Records.{handed, handed_numbers}
 use Rattle.elements.specs.Find.{row_threshold, threshold_of, amplitude_row_of, found_at, elements_at, found_of, elements_found}
 use Rattle.elements.proofs.Same.{found_same, elements_same}
@@ -28,31 +24,21 @@ use Rattle.elements.proofs.Bounds.{some_row}
 
 -- ---- the row in the work slice
 
--- where the recording has a window of samples: the step, and how many blocks there are
-pub record Entered (iq : List Float) (fs : Float) (step : ℕ) : Type 0 where
-  pub same : length iq / 2 / step ≡ step_blocks iq fs
+-- where the recording has a window of samples: how many blocks of a step there are
+pub record Entered (iq : List Float) (fs : Float) (n step : ℕ) : Type 0 where
+  pub same : n / step ≡ step_blocks iq fs
   pub least : 1 ≤ step
-  pub eight : 8 ≤ length iq / 2 / step
-  pub few : length iq / 2 / step ≤ 2 ^ 20
+  pub eight : 8 ≤ n / step
 
-pub entered : (iq : List Float) (fs : Float) (step : ℕ) → Iq iq → step ≡ step_of fs → 8 * step ≤ length iq / 2 → Entered iq fs step
-entered iq fs step i e h =
-    let low = step_low fs in
-    let window : window_of fs ≤ samples iq = omega arith in
-    record {
-      same = rw e;
-      least = omega arith;
-      eight = rw e (row_some iq fs window);
-      few = omega (arith, blocks_short iq step i.short);
-    }
+pub entered : (iq : List Float) (fs : Float) (n step : ℕ) → n ≡ samples iq → step ≡ step_of fs → window_of fs ≤ n → Entered iq fs n step
+entered iq fs n step e s h =
+    record { same = rw (e, s); least = rw s (step_low fs); eight = rw (e, s) (row_some iq fs (rw e at h)) }
 
 module _ (iq : List Float) (fs carrier : Float) where
   -- where it has none, the row is empty
-  pub row_empty : (step : ℕ) → step ≡ step_of fs → length iq / 2 < 8 * step → [] ≡ firsts (row_of iq fs carrier) (row_length iq fs)
+  pub row_empty : samples iq < window_of fs → [] ≡ firsts (row_of iq fs carrier) (row_length iq fs)
   unfolding firsts
-  row_empty step e h =
-      let few : samples iq < window_of fs = rw (← e) h in
-      rw (row_none iq fs few)
+  row_empty few = rw (row_none iq fs few)
 
   -- the amplitudes stored behind the block means are the row
   pub row_read : (step : ℕ) (w end : List Float) → step ≡ step_of fs
@@ -79,34 +65,35 @@ module _ (iq : List Float) (fs carrier : Float) where
       (r ≡ amplitude_row_of iq fs carrier)
       × (handed_numbers out r.amplitudes ≡ handed 1 (firsts (row_of iq fs carrier) (row_length iq fs)) l)
 
-  -- v is the row as the work slice has it, and t its threshold
-  pub row_made : (l out v : List Float) (t : Threshold) → v ≡ firsts (row_of iq fs carrier) (row_length iq fs)
-      → row_length iq fs ≤ length l → out ≡ fill l 0 (λ k. get_or v k nan) (length v) → t ≡ row_threshold v
-      → row_answered (record { amplitudes = length v; threshold = t }) l out
+  -- v is the row as the work slice has it, copied to the start of the list l, and t its threshold
+  pub row_made : (l v : List Float) (t : Option Float) → v ≡ firsts (row_of iq fs carrier) (row_length iq fs)
+      → row_length iq fs ≤ length l → t ≡ row_threshold v
+      → row_answered (record { amplitudes = length v; threshold = t }) l (v ++ drop (length v) l)
   unfolding amplitude_row_of threshold_of
-  row_made l out v t is room copied told =
+  row_made l v t is room told =
       let size = row_size iq fs carrier v is in
-      (rw (size, told, is), rw (copied, ← is) (copied_handed l v (omega arith)))
+      let whole : length (v ++ drop (length v) l) ≡ length l = simp (length-append, length-drop) (omega arith) in
+      (rw (size, told, is), rw (← is) (numbers_handed l (v ++ drop (length v) l) v (length v) whole (take-append_seam v (drop (length v) l))))
 
 -- ---- the key-downs of numbers that are the row, at the recording's threshold, are those of the recording
 module _ (iq : List Float) (fs carrier : Float) (row : ℕ → Float) (same : (i : ℕ) → i < row_length iq fs → row i ≡ row_of iq fs carrier i) where
-  agree : (thr : Float) → threshold_of iq fs carrier ≡ At thr → (i : ℕ) → i ≤ row_length iq fs - 1 → row i ≡ row_of iq fs carrier i
+  agree : (thr : Float) → threshold_of iq fs carrier ≡ Some thr → (i : ℕ) → i ≤ row_length iq fs - 1 → row i ≡ row_of iq fs carrier i
   agree thr t i h = let some = some_row iq fs carrier thr t in same i (omega arith)
 
   pub found_by_row : found_at row (row_length iq fs - 1) (step_of fs) fs (threshold_of iq fs carrier) ≡ found_of iq fs carrier
   unfolding found_of
   found_by_row = go (threshold_of iq fs carrier) refl
     where
-      go : (t : Threshold) → threshold_of iq fs carrier ≡ t
+      go : (t : Option Float) → threshold_of iq fs carrier ≡ t
           → found_at row (row_length iq fs - 1) (step_of fs) fs t ≡ found_at (row_of iq fs carrier) (row_length iq fs - 1) (step_of fs) fs t
-      go (At thr) t = found_same row (row_of iq fs carrier) thr (row_length iq fs - 1) (agree thr t) (step_of fs) fs
-      go Absent t = refl
+      go (Some thr) t = found_same row (row_of iq fs carrier) thr (row_length iq fs - 1) (agree thr t) (step_of fs) fs
+      go None t = refl
 
   pub elements_by_row : elements_at row (row_length iq fs - 1) (step_of fs) fs (threshold_of iq fs carrier) ≡ elements_found iq fs carrier
   unfolding elements_found
   elements_by_row = go (threshold_of iq fs carrier) refl
     where
-      go : (t : Threshold) → threshold_of iq fs carrier ≡ t
+      go : (t : Option Float) → threshold_of iq fs carrier ≡ t
           → elements_at row (row_length iq fs - 1) (step_of fs) fs t ≡ elements_at (row_of iq fs carrier) (row_length iq fs - 1) (step_of fs) fs t
-      go (At thr) t = elements_same row (row_of iq fs carrier) thr (row_length iq fs - 1) (agree thr t) (step_of fs) fs
-      go Absent t = refl
+      go (Some thr) t = elements_same row (row_of iq fs carrier) thr (row_length iq fs - 1) (agree thr t) (step_of fs) fs
+      go None t = refl

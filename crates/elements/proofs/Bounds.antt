@@ -2,6 +2,8 @@
 -- threshold are amounts (finite, with the sign plus).
 -- `element_bounded` is of one key-down, `elements_bounded` of all that a row has. Of a recording of finite f32, at
 -- any carrier: `threshold_amount`, `recorded_is`, `found_bounded`. Assumes nothing.
+use Rattle.std.proofs.Common.{Some, None}
+use Rattle.std.specs.declared.option.Option.{Option}
 use mathlib.Core.Path.{◌≡◌, refl, sym, ap, ◌∙◌, subst}
 use mathlib.Core.Logic.{◌⊎◌, inl, inr, ◌↔◌}
 use mathlib.Core.Bool.{Bool, true, false, cond}
@@ -24,14 +26,10 @@ use Rattle.row.proofs.Means.{blocks_short}
 use Rattle.row.proofs.Steps.{step_low, step_high}
 use Rattle.lists.proofs.Firsts.{length_firsts, get_d_firsts}
 use Rattle.row.proofs.Bounds.{row_amount}
-use Rattle.rank.specs.declared.Percentile.{Percentile}
-use Rattle.rank.specs.declared.Percentile.TheVariants.{Value, Nothing}
 use Rattle.rank.specs.Select.{percentile_of}
 use Rattle.rank.proofs.Sorted.{percentile_none}
 use Rattle.rank.proofs.Among.{percentile_keeps}
 use Rattle.constants.specs.Constants.{EDGE_PERCENTILE}
-use Rattle.elements.specs.declared.threshold.Threshold.{Threshold}
-use Rattle.elements.specs.declared.threshold.Threshold.TheVariants.{At, Absent}
 use Rattle.elements.specs.Find.{half_of, threshold_of, key_downs_at, elements_at, key_downs_of, elements_found}
 use Rattle.elements.specs.declared.element.KeyedElement.{KeyedElement}
 use Rattle.elements.specs.Keying.{KeyDown, IsKeyDown, row_key_downs, crossed_at, element_of, listed_of, elements_of, elements_to}
@@ -88,7 +86,7 @@ elements_bounded row thr step fs j some s h each t e m =
 -- ---- those of a recording, at any carrier
 
 -- a row that has a threshold is not empty
-pub some_row : (iq : List Float) (fs carrier thr : Float) → threshold_of iq fs carrier ≡ At thr → 0 < row_length iq fs
+pub some_row : (iq : List Float) (fs carrier thr : Float) → threshold_of iq fs carrier ≡ Some thr → 0 < row_length iq fs
 unfolding threshold_of
 some_row iq fs carrier thr e = go (eq-zero-or-pos (row_length iq fs))
   where
@@ -97,8 +95,8 @@ some_row iq fs carrier thr e = go (eq-zero-or-pos (row_length iq fs))
 
     go : (row_length iq fs ≡ 0) ⊎ (0 < row_length iq fs) → 0 < row_length iq fs
     go (inl z) =
-        let none : Nothing ≡ percentile_of row EDGE_PERCENTILE = percentile_none row EDGE_PERCENTILE (length_firsts (row_of iq fs carrier) (row_length iq fs) ∙ z) in
-        let gone : half_of Nothing ≡ At thr = ap half_of none ∙ e in
+        let none : None ≡ percentile_of row EDGE_PERCENTILE = percentile_none row EDGE_PERCENTILE (length_firsts (row_of iq fs carrier) (row_length iq fs) ∙ z) in
+        let gone : half_of None ≡ Some thr = ap half_of none ∙ e in
         let no : ◌≡◌ {A = ℕ} 0 1 = cc in absurd (omega arith)
     go (inr p) = p
 
@@ -112,32 +110,32 @@ module _ (iq : List Float) (fs carrier : Float) (s : Singles iq) (q : Iq iq) whe
       let here : i < row_length iq fs = subst (λ (n : ℕ). i < n) (length_firsts (row_of iq fs carrier) (row_length iq fs)) h in
       subst Amount (sym (get_d_firsts (row_of iq fs carrier) (row_length iq fs) i nan here)) (row_amount iq fs carrier i s q here)
 
-  half_amount : (p : Percentile) (thr : Float) → ((v : Float) → p ≡ Value v → Amount v) → half_of p ≡ At thr → Amount thr
-  half_amount (Value top) thr h e = go (lt plus_zero (half ⊗ top)) e
+  half_amount : (p : Option Float) (thr : Float) → ((v : Float) → p ≡ Some v → Amount v) → half_of p ≡ Some thr → Amount thr
+  half_amount (Some top) thr h e = go (lt plus_zero (half ⊗ top)) e
     where
-      go : (t : Bool) → cond t (At (half ⊗ top)) Absent ≡ At thr → Amount thr
+      go : (t : Bool) → cond t (Some (half ⊗ top)) None ≡ Some thr → Amount thr
       go true e = let same : half ⊗ top ≡ thr = cc in subst Amount same (amount_half top (h top refl))
       go false e = let no : ◌≡◌ {A = ℕ} 0 1 = cc in absurd (omega arith)
-  half_amount Nothing thr h e = let no : ◌≡◌ {A = ℕ} 0 1 = cc in absurd (omega arith)
+  half_amount None thr h e = let no : ◌≡◌ {A = ℕ} 0 1 = cc in absurd (omega arith)
 
   -- the threshold
-  pub threshold_amount : (thr : Float) → threshold_of iq fs carrier ≡ At thr → Amount thr
+  pub threshold_amount : (thr : Float) → threshold_of iq fs carrier ≡ Some thr → Amount thr
   unfolding threshold_of
   threshold_amount thr e =
       let row = firsts (row_of iq fs carrier) (row_length iq fs) in
       half_amount (percentile_of row EDGE_PERCENTILE) thr (λ v p. percentile_keeps Amount row EDGE_PERCENTILE v listed_amount p) e
 
-  pub last_amount : (thr : Float) → threshold_of iq fs carrier ≡ At thr → (i : ℕ) → i ≤ row_length iq fs - 1 → Amount (row_of iq fs carrier i)
+  pub last_amount : (thr : Float) → threshold_of iq fs carrier ≡ Some thr → (i : ℕ) → i ≤ row_length iq fs - 1 → Amount (row_of iq fs carrier i)
   last_amount thr t i h = let some : 0 < row_length iq fs = some_row iq fs carrier thr t in row_amount iq fs carrier i s q (omega arith)
 
   -- A pair of positions is a key-down of the recording exactly if it is an upward crossing and the next downward one:
   -- the row has no NaN.
-  pub recorded_is : (thr : Float) → threshold_of iq fs carrier ≡ At thr
+  pub recorded_is : (thr : Float) → threshold_of iq fs carrier ≡ Some thr
       → (k : KeyDown) → Memᴰ k (key_downs_of iq fs carrier) ↔ IsKeyDown (row_of iq fs carrier) thr (row_length iq fs - 1) k
   unfolding key_downs_of
   recorded_is thr t k =
       let last = row_length iq fs - 1 in
-      subst (λ (p : Threshold). Memᴰ k (key_downs_at (row_of iq fs carrier) last (step_of fs) fs p) ↔ IsKeyDown (row_of iq fs carrier) thr last k) (sym t)
+      subst (λ (p : Option Float). Memᴰ k (key_downs_at (row_of iq fs carrier) last (step_of fs) fs p) ↔ IsKeyDown (row_of iq fs carrier) thr last k) (sym t)
       (key_down_is (row_of iq fs carrier) thr last (λ i l. amount_number (last_amount thr t i l)) k)
 
   -- the numbers of every element found
@@ -145,8 +143,8 @@ module _ (iq : List Float) (fs carrier : Float) (s : Singles iq) (q : Iq iq) whe
   unfolding elements_found
   found_bounded r e m = go (threshold_of iq fs carrier) refl m
     where
-      go : (p : Threshold) → threshold_of iq fs carrier ≡ p → Memᴰ e (elements_at (row_of iq fs carrier) (row_length iq fs - 1) (step_of fs) fs p) → Plain e
-      go (At thr) t m =
+      go : (p : Option Float) → threshold_of iq fs carrier ≡ p → Memᴰ e (elements_at (row_of iq fs carrier) (row_length iq fs - 1) (step_of fs) fs p) → Plain e
+      go (Some thr) t m =
           elements_bounded (row_of iq fs carrier) thr (step_of fs) fs (row_length iq fs - 1) (step_low fs) (step_high fs r) (short_row iq fs q)
           (last_amount thr t) (threshold_amount thr t) e m
-      go Absent t m = absurd (Memᴰ.not-nil m)
+      go None t m = absurd (Memᴰ.not-nil m)

@@ -1,5 +1,7 @@
 -- Which pairs `row_key_downs` has: each upward crossing with the next downward one, each once, in order (01, part 3). For
 -- every row and threshold; where a row must have no NaN, the theorem says so. Assumes nothing.
+use Rattle.std.proofs.Common.{Some, None}
+use Rattle.std.specs.declared.option.Option.{Option}
 use Prim.Native.Nat.{ℕ, zero, suc, ◌+◌, ◌-◌, ◌*◌, ◌≤◌, ◌<◌}
 use native.Mathlib.Nat.{eq-or-lt_of_le, eq-zero-or-pos, le_of_suc-le-suc}
 use native.Mathlib.Omega.{arith}
@@ -14,8 +16,6 @@ use borrow.Author.Tests.{ltb-true, ltb-false}
 use lib.Ieee.{Float, lt, le, is_nan}
 use Rattle.lists.proofs.Every.{and_left, and_right}
 use Rattle.lists.proofs.Members.{those_are, those_others}
-use Rattle.elements.specs.declared.keying.Rising.{Rising}
-use Rattle.elements.specs.declared.keying.Rising.TheVariants.{At, Nothing}
 use Rattle.elements.specs.Keying.{upward, downward, KeyDown, key_down, IsKeyDown, InOrder, pending, ended, row_key_downs, long, listed_of, short_of, counts, found_to}
 use Rattle.lists.specs.Those.{those}
 use Rattle.elements.proofs.Reached.{not_reached, reached, reached_number}
@@ -34,17 +34,17 @@ module _ (row : ℕ → Float) (thr : Float) where
   quiet i = (upward row thr i ≡ false) × (downward row thr i ≡ false)
 
   -- ---- what is pending at j: the upward crossing that no crossing follows up to j
-  pending_none : (u : ℕ) → pending row thr zero ≡ At u → ⊥
+  pending_none : (u : ℕ) → pending row thr zero ≡ Some u → ⊥
   unfolding pending
   pending_none u e = let no : ◌≡◌ {A = ℕ} 0 1 = cc in omega arith
 
-  not_nothing : (u : ℕ) (r : Rising) → r ≡ Nothing → r ≡ At u → ⊥
+  not_nothing : (u : ℕ) (r : Option ℕ) → r ≡ None → r ≡ Some u → ⊥
   not_nothing u r e g = let no : ◌≡◌ {A = ℕ} 0 1 = cc in omega arith
 
-  same_at : (u v : ℕ) (r : Rising) → r ≡ At u → r ≡ At v → u ≡ v
+  same_at : (u v : ℕ) (r : Option ℕ) → r ≡ Some u → r ≡ Some v → u ≡ v
   same_at u v r e g = cc
 
-  pub pending_is : (j u : ℕ) → pending row thr j ≡ At u → (upward row thr u ≡ true) × (u ≤ j) × ((m : ℕ) → u < m → m ≤ j → quiet m)
+  pub pending_is : (j u : ℕ) → pending row thr j ≡ Some u → (upward row thr u ≡ true) × (u ≤ j) × ((m : ℕ) → u < m → m ≤ j → quiet m)
   pending_is zero u e = absurd (pending_none u e)
   pending_is (suc j) u e =
       ⊎_elim
@@ -69,16 +69,16 @@ module _ (row : ℕ → Float) (thr : Float) where
   pub up_at_least_one : (last : ℕ) (k : KeyDown) → IsKeyDown row thr last k → 0 < k.up
   up_at_least_one last k is = ⊎_elim (λ z. absurd (first_not_up (subst (λ i. upward row thr i ≡ true) z is.rises))) (λ p. p) (eq-zero-or-pos k.up)
 
-  pub pending_at : (j u : ℕ) → upward row thr u ≡ true → u ≤ j → ((m : ℕ) → u < m → m ≤ j → quiet m) → pending row thr j ≡ At u
+  pub pending_at : (j u : ℕ) → upward row thr u ≡ true → u ≤ j → ((m : ℕ) → u < m → m ≤ j → quiet m) → pending row thr j ≡ Some u
   pending_at zero u h le-j q = let none : u ≡ 0 = omega arith in absurd (first_not_up (subst (λ k. upward row thr k ≡ true) none h))
   pending_at (suc j) u h le-j q =
       ⊎_elim
-      (λ e. subst (λ k. pending row thr k ≡ At u) e (up_here u h))
+      (λ e. subst (λ k. pending row thr k ≡ Some u) e (up_here u h))
       (λ l. let s = q (suc j) (omega arith) (omega arith) in
       pending_same row thr j s.0 s.1 ∙ pending_at j u h (omega arith) (λ m a b. q m a (omega arith)))
       (eq-or-lt_of_le le-j)
     where
-      up_here : (v : ℕ) → upward row thr v ≡ true → pending row thr v ≡ At v
+      up_here : (v : ℕ) → upward row thr v ≡ true → pending row thr v ≡ Some v
       up_here zero g = absurd (first_not_up g)
       up_here (suc v) g = pending_up row thr v g
 
@@ -87,13 +87,13 @@ module _ (row : ℕ → Float) (thr : Float) where
   Alone k = (i : ℕ) → k.up < i → i < k.down → upward row thr i ≡ false
 
   module _ (j : ℕ) (d : downward row thr (suc j) ≡ true) where
-    here_is : (r : Rising) (k : KeyDown) → pending row thr j ≡ r → Memᴰ k (ended r (suc j)) → IsKeyDown row thr (suc j) k × Alone k
-    here_is (At u) k e m =
+    here_is : (r : Option ℕ) (k : KeyDown) → pending row thr j ≡ r → Memᴰ k (ended r (suc j)) → IsKeyDown row thr (suc j) k × Alone k
+    here_is (Some u) k e m =
         let p = pending_is j u e in
         let same = Memᴰ.eq_of_singleton m in
         subst (λ q. IsKeyDown row thr (suc j) q × Alone q) (sym same)
         (record { rises = p.0; falls = d; later = omega arith; within = omega arith; next = λ i a b. (p.2 i a (omega arith)).1 }, λ i a b. (p.2 i a (omega arith)).0)
-    here_is Nothing k e m = absurd (Memᴰ.not-nil m)
+    here_is None k e m = absurd (Memᴰ.not-nil m)
 
   wider : (j : ℕ) (k : KeyDown) → IsKeyDown row thr j k × Alone k → IsKeyDown row thr (suc j) k × Alone k
   wider j k h =
@@ -175,7 +175,7 @@ module _ (row : ℕ → Float) (thr : Float) where
 
   -- ---- the order of the list
   -- a key-down of the list ends before the pending upward crossing
-  before_pending : (j u : ℕ) (k : KeyDown) → pending row thr j ≡ At u → Memᴰ k (row_key_downs row thr j) → k.down < u
+  before_pending : (j u : ℕ) (k : KeyDown) → pending row thr j ≡ Some u → Memᴰ k (row_key_downs row thr j) → k.down < u
   before_pending j u k e m =
       let p = pending_is j u e in
       let s = (members j k m).0 in
@@ -194,9 +194,9 @@ module _ (row : ℕ → Float) (thr : Float) where
     in_order_more ks k h.1 (λ d m. all d (Memᴰ.tail m)),
   )
 
-  in_order_ended : (j : ℕ) (r : Rising) → pending row thr j ≡ r → InOrder (row_key_downs row thr j) → InOrder (row_key_downs row thr j ++ ended r (suc j))
-  in_order_ended j (At u) e h = in_order_more (row_key_downs row thr j) (key_down u (suc j)) h (λ d m. before_pending j u d e m)
-  in_order_ended j Nothing e h = subst InOrder (sym (append-nil (row_key_downs row thr j))) h
+  in_order_ended : (j : ℕ) (r : Option ℕ) → pending row thr j ≡ r → InOrder (row_key_downs row thr j) → InOrder (row_key_downs row thr j ++ ended r (suc j))
+  in_order_ended j (Some u) e h = in_order_more (row_key_downs row thr j) (key_down u (suc j)) h (λ d m. before_pending j u d e m)
+  in_order_ended j None e h = subst InOrder (sym (append-nil (row_key_downs row thr j))) h
 
   pub in_order : (j : ℕ) → InOrder (row_key_downs row thr j)
   unfolding row_key_downs
@@ -207,9 +207,9 @@ module _ (row : ℕ → Float) (thr : Float) where
       (either (downward row thr (suc j)))
 
   -- ---- two key-downs take four crossings: a row of n amplitudes has at most (n − 1) / 2 key-downs
-  places_of : (r : Rising) (j : ℕ) (ks : List KeyDown) → Spaced r j ks → 2 * length ks ≤ j
-  places_of (At u) j ks h = omega arith
-  places_of Nothing j ks h = omega arith
+  places_of : (r : Option ℕ) (j : ℕ) (ks : List KeyDown) → Spaced r j ks → 2 * length ks ≤ j
+  places_of (Some u) j ks h = omega arith
+  places_of None j ks h = omega arith
 
   pub places : (j : ℕ) → 2 * length (row_key_downs row thr j) ≤ j
   places j = places_of (pending row thr j) j (row_key_downs row thr j) (spaced row thr j)

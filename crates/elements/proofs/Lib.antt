@@ -4,7 +4,8 @@
 --             `elements_handed`; what a promise says: `elements_read`, `elements_again`
 -- Reached     an amplitude lies below a threshold or reaches it: `not_reached`, `reached`
 -- Joined      counts and elements of one list of key-downs behind another
--- Walk        a turn of the loop over a row: what is pending, counted and stored; how small the counts are
+-- Walk        a turn of the loop over the pairs of a row: where it is: `Paired`; what is pending, counted and stored:
+--             `Walked`; how small the counts are: `spaced`, `ending`
 -- KeyDowns    which pairs `row_key_downs` has: `key_down_is`; their order: `in_order`; `listed_is`, `places`
 -- Same        rows that agree have the same key-downs, counts and elements
 -- Centres     the centre of a window is a number of halves: `centre_is`; a crossing lies between two of them:

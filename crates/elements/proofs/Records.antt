@@ -1,16 +1,20 @@
 -- Elements in a list: stored from a number on and read back. `element_kind` gives the laws on records of any kind
 -- (lists Records) for elements; `elements_handed` says what a list of elements hands out. Assumes nothing.
 use Prim.Native.Nat.{ℕ, ◌+◌, ◌*◌, ◌≤◌, ◌<◌}
+use native.Mathlib.Nat.{add-zero}
 use native.Mathlib.Omega.{arith}
 use mathlib.Core.Path.{◌≡◌, ap, ◌∙◌}
-use mathlib.Core.List.{List}
+use mathlib.Core.List.{List, []}
+use lib.Dec.{lit<}
 use lib.ListN.{length, get_or, set, drop, length-set}
 use lib.Seq.{get_or-set_same, get_or-set_other, drop-set-lt}
 use lib.Ieee.{Float, nan}
+use Rattle.std.specs.Simd.{first_chunks}
 use Rattle.lists.specs.Records.{Handed, handed}
+use Rattle.lists.proofs.Chunks.{chunk_read}
 use Rattle.lists.proofs.Records.{Kind, stored_handed, handed_again}
 use Rattle.elements.specs.declared.element.KeyedElement.{KeyedElement}
-use Rattle.elements.specs.Element.{ELEMENT, element_from, elements_in, handed_elements}
+use Rattle.elements.specs.Element.{ELEMENT, element_from, element_at, elements_in, handed_elements}
 use Rattle.elements.specs.Inner.{put_element_from, stored}
 
 module _ (l : List Float) (at : ℕ) (e : KeyedElement) where
@@ -88,3 +92,17 @@ pub elements_again : (h : Handed KeyedElement) (es ds : List KeyedElement) (mid 
     → h ≡ handed ELEMENT es mid → handed_elements mid n ≡ handed ELEMENT ds l → h ≡ handed ELEMENT es l
 unfolding handed_elements
 elements_again h es ds mid l n e f = handed_again ELEMENT h es (elements_in mid n) ds mid l e f
+
+-- an element read from its place alone
+pub element_read : (places : List (List Float)) (n : ℕ) (l : List Float) (k : ℕ) (e : KeyedElement)
+    → places ≡ first_chunks ELEMENT n l → k < n → e ≡ element_at (get_or places k []) 0 → e ≡ element_at l k
+element_read places n l k e all h read =
+    rw (
+      read,
+      all,
+      chunk_read ELEMENT n l k 0 [] nan h (lit< tt),
+      chunk_read ELEMENT n l k 1 [] nan h (lit< tt),
+      chunk_read ELEMENT n l k 2 [] nan h (lit< tt),
+      chunk_read ELEMENT n l k 3 [] nan h (lit< tt),
+      add-zero (ELEMENT * k),
+    )

@@ -3,6 +3,8 @@
 -- centre at up, and each end likewise for down, ends included (`found_placed`); starts rise strictly, and no end is
 -- later than the next start or any later one (`found_in_time`). The times are the f64 that are computed; what is
 -- compared is their exact value too (`before_exactly`). Assumes nothing.
+use Rattle.std.proofs.Common.{Some, None}
+use Rattle.std.specs.declared.option.Option.{Option}
 use mathlib.Core.Path.{◌≡◌, refl, subst}
 use mathlib.Core.Bool.{false}
 use mathlib.Core.List.Memᴰ
@@ -21,8 +23,6 @@ use Rattle.row.specs.Window.{Rate, step_of}
 use Rattle.row.specs.Envelope.{row_of, row_length}
 use Rattle.row.proofs.Steps.{step_low, step_high}
 use Rattle.elements.specs.declared.element.KeyedElement.{KeyedElement}
-use Rattle.elements.specs.declared.threshold.Threshold.{Threshold}
-use Rattle.elements.specs.declared.threshold.Threshold.TheVariants.{At, Absent}
 use Rattle.elements.specs.Element.{ELEMENT, elements_in, handed_elements}
 use Rattle.elements.specs.Keying.{KeyDown, IsKeyDown, InOrder, LongKeyDowns, element_of}
 use Rattle.elements.specs.Find.{threshold_of, elements_found}
@@ -84,7 +84,7 @@ module _ (row : ℕ → Float) (thr : Float) (step last : ℕ) (some : 0 < step)
 -- ---- those of a recording
 
 module _ (iq : List Float) (fs carrier : Float) (s : Singles iq) (q : Iq iq) (r : Rate fs) where
-  module _ (thr : Float) (t : threshold_of iq fs carrier ≡ At thr) where
+  module _ (thr : Float) (t : threshold_of iq fs carrier ≡ Some thr) where
     listed : LongKeyDowns (row_of iq fs carrier) thr (row_length iq fs - 1) (step_of fs) fs (elements_found iq fs carrier)
     listed = found_exactly iq fs carrier s q thr t
 
@@ -106,17 +106,17 @@ module _ (iq : List Float) (fs carrier : Float) (s : Singles iq) (q : Iq iq) (r 
   pub found_placed : (e : KeyedElement) → Memᴰ e (elements_found iq fs carrier) → Placed (step_of fs) e
   found_placed e m = go (threshold_of iq fs carrier) refl
     where
-      go : (p : Threshold) → threshold_of iq fs carrier ≡ p → Placed (step_of fs) e
-      go (At thr) t = placed_at thr t e m
-      go Absent t = absurd (Memᴰ.not-nil (rw (found_nothing iq fs carrier t) at m))
+      go : (p : Option Float) → threshold_of iq fs carrier ≡ p → Placed (step_of fs) e
+      go (Some thr) t = placed_at thr t e m
+      go None t = absurd (Memᴰ.not-nil (rw (found_nothing iq fs carrier t) at m))
 
   -- Starts rise strictly, and no end is later than the next start, nor than any later one.
   pub found_in_time : InTime (elements_found iq fs carrier)
   found_in_time = go (threshold_of iq fs carrier) refl
     where
-      go : (p : Threshold) → threshold_of iq fs carrier ≡ p → InTime (elements_found iq fs carrier)
-      go (At thr) t = in_time_at thr t
-      go Absent t = rw (found_nothing iq fs carrier t) tt
+      go : (p : Option Float) → threshold_of iq fs carrier ≡ p → InTime (elements_found iq fs carrier)
+      go (Some thr) t = in_time_at thr t
+      go None t = rw (found_nothing iq fs carrier t) tt
 
   -- The same of the elements at the first places of a list that hands them out.
   module _ (cur l : List Float) (n : ℕ) (h : handed_elements cur n ≡ handed ELEMENT (elements_found iq fs carrier) l) where

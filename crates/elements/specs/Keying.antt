@@ -1,7 +1,9 @@
 -- A row of amplitudes at a threshold (01, part 3): its crossings and key-downs, their times, the elements listed, and
 -- the counts. A row is a function of the position. Definitions only.
-use Rattle.std.specs.Prelude.{ℕ, zero, suc, ◌+◌, ◌-◌, ◌*◌, ◌≤◌, ◌<◌, ◌≡◌, Bool, true, false, not, ◌&&◌, cond, ◌↔◌, length, Float}
+use Rattle.std.specs.Prelude.{ℕ, zero, suc, ◌+◌, ◌-◌, ◌*◌, ◌≤◌, ◌<◌, ◌≡◌, Bool, true, false, not, ◌&&◌, cond, ◌↔◌, length, get_or, Float, Some, None}
+use Rattle.std.specs.declared.option.Option.{Option}
 use mathlib.Core.List.{List, [], ◌∷◌, ◌++◌, map, Memᴰ}
+use Rattle.std.specs.Float.{nan}
 use Rattle.std.specs.Float.Ieee.{lt, le}
 use Rattle.float.specs.Ops.{◌⊕◌, ◌⊖◌, ◌⊗◌, ◌⊘◌, of}
 use Rattle.lists.specs.Those.{those}
@@ -9,8 +11,10 @@ use Rattle.constants.specs.Constants.{RISE_S}
 use Rattle.row.specs.Window.{centre_of}
 use Rattle.elements.specs.declared.element.KeyedElement.{KeyedElement}
 use Rattle.elements.specs.declared.keying.Found.{Found}
-use Rattle.elements.specs.declared.keying.Rising.{Rising}
-use Rattle.elements.specs.declared.keying.Rising.TheVariants.{At, Nothing}
+
+-- a list of amplitudes as such a function; past its end it is a NaN
+abbrev pub heights : List Float → ℕ → Float
+heights l = λ i. get_or l i nan
 
 -- A crossing at i is upward when row[i−1] < threshold ≤ row[i] ..
 unfoldable pub upward : (ℕ → Float) → Float → ℕ → Bool
@@ -46,18 +50,18 @@ InOrder (k ∷ ks) = ((d : KeyDown) → Memᴰ d ks → k.down < d.up) × InOrde
 
 -- Among the positions 1 to j: the upward crossing that no downward one has followed, if there is one (the Rust's
 -- `rising`).
-unfoldable pub pending : (ℕ → Float) → Float → ℕ → Rising
+unfoldable pub pending : (ℕ → Float) → Float → ℕ → Option ℕ
 unfolding upward downward
-pending row thr zero = Nothing
+pending row thr zero = None
 pending row thr (suc j) =
     let before = pending row thr j in
-    let unless = cond (downward row thr (suc j)) Nothing before in
-    cond (upward row thr (suc j)) (At (suc j)) unless
+    let unless = cond (downward row thr (suc j)) None before in
+    cond (upward row thr (suc j)) (Some (suc j)) unless
 
 -- what a downward crossing at i ends: the key-down of the pending upward crossing, nothing where none is pending
-abbrev pub ended : Rising → ℕ → List KeyDown
-ended (At u) i = key_down u i ∷ []
-ended Nothing i = []
+abbrev pub ended : Option ℕ → ℕ → List KeyDown
+ended (Some u) i = key_down u i ∷ []
+ended None i = []
 
 -- the key-downs that end at the positions 1 to j, in order
 unfoldable pub row_key_downs : (ℕ → Float) → Float → ℕ → List KeyDown

@@ -3,8 +3,13 @@ ghost use Rattle.std.specs.Prelude.{◌≡◌, ◌+◌, ◌*◌, ◌≤◌, leng
 ghost use Rattle.elements.specs.Element.{ELEMENT, element_from, element_at};
 ghost use Rattle.elements.specs.Inner.{put_element_from, put_element};
 
+use crate::places::Places;
+
 // How many numbers an element has in a list: a place.
 pub const ELEMENT: usize = 4;
+
+// The first elements of a list.
+pub type Elements<'a> = Places<'a, ELEMENT>;
 
 // The sample times of the two crossings, and their positions in the row, which the Rust does not keep.
 #[derive(Clone, Copy)]

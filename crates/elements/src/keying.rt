@@ -1,21 +1,14 @@
 // The walk along a row of amplitudes.
-ghost use Rattle.std.specs.Prelude.{◌≡◌, ◌+◌, ◌-◌, ◌*◌, ◌/◌, ◌^◌, ◌≤◌, ◌<◌, [], ◌∷◌, length, get_or};
-ghost use Rattle.std.specs.Float.{nan};
+ghost use Rattle.std.specs.Prelude.{◌≡◌, ◌+◌, ◌-◌, ◌*◌, ◌/◌, ◌^◌, ◌≤◌, ◌<◌, ◌&&◌, length};
+ghost use Rattle.std.specs.Float.Ieee.{lt, le};
 ghost use Rattle.elements.specs.Element.{ELEMENT};
-ghost use Rattle.elements.specs.Keying.{upward, downward, key_down, pending, ended, crossed_at, element_of, is_long, counts, found_to, elements_of, elements_to};
-ghost use Rattle.elements.specs.Inner.{stored, stored_from, Room, Ending, one_listed, one_short, found_plus};
+ghost use Rattle.elements.specs.Keying.{heights, key_down, pending, ended, crossed_at, element_of, is_long, counts, found_to, elements_of, elements_to};
+ghost use Rattle.elements.specs.Inner.{stored, stored_from, Room, one_listed, one_short, found_plus};
 
 use crate::element::{KeyedElement, put_element};
 use constants::RISE_S;
 use float::whole::exact;
 use row::centre;
-
-// The position of the upward crossing that no downward one has followed yet. The Rust keeps its time.
-#[derive(Clone, Copy)]
-pub enum Rising {
-    At(usize),
-    Nothing,
-}
 
 // How many key-downs a row has, how many of them are listed and short, and the airtime of the listed ones in samples.
 #[derive(Clone, Copy)]
@@ -62,124 +55,97 @@ impl Found {
     }
 }
 
-fn rises(row: &[f64], thr: f64, i: usize) -> bool
-    requires { (1 ≤ i) × (i < length row.now) }
-    ensures { result ≡ upward (λ k. get_or row.now k nan) thr i }
-{
-    row[i - 1] < thr && row[i] >= thr
+// A row of amplitudes at a threshold: they stand `step` samples apart, at the sample rate fs.
+#[derive(Clone, Copy)]
+pub struct Walk<'a> {
+    pub row: &'a [f64],
+    pub thr: f64,
+    pub step: usize,
+    pub fs: f64,
+    pub ghost few: { length row.now ≤ 2 ^ 20 },
+    pub ghost near: { step ≤ 64 },
 }
 
-fn falls(row: &[f64], thr: f64, i: usize) -> bool
-    requires { (1 ≤ i) × (i < length row.now) }
-    ensures { result ≡ downward (λ k. get_or row.now k nan) thr i }
-{
-    row[i - 1] >= thr && row[i] < thr
-}
-
-// The time of the crossing at i. Rust: `centre` and `cross` of find_elements.
-fn crossing(row: &[f64], thr: f64, step: usize, i: usize) -> f64
-    requires le_i { (1 ≤ i) × (i < length row.now) }
-    requires row_len_bound { (length row.now ≤ 2 ^ 20) × (step ≤ 64) }
-    ensures { result ≡ crossed_at (λ k. get_or row.now k nan) thr step i }
-{
-    let a0 = row[i - 1];
-    let a1 = row[i];
-    centre((i - 1) * step, 8 * step) + (thr - a0) / (a1 - a0) * exact(step)
-}
-
-// The element that the key-down from up to down is.
-fn element_of(row: &[f64], thr: f64, step: usize, up: usize, down: usize) -> KeyedElement
-    requires le_up { (1 ≤ up) × (up < down) × (down < length row.now) }
-    requires row_len_bound { (length row.now ≤ 2 ^ 20) × (step ≤ 64) }
-    ensures { result ≡ element_of (λ k. get_or row.now k nan) thr step (key_down up down) }
-{
-    KeyedElement {
-        start: crossing(row, thr, step, up),
-        end: crossing(row, thr, step, down),
-        up: exact(up),
-        down: exact(down),
+impl<'a> Walk<'a> {
+    // Is the threshold crossed upward from one amplitude to another? Downward it is crossed where it is upward from the
+    // later one to the earlier.
+    fn crosses(&self, below: f64, above: f64) -> bool
+        ensures { result ≡ (lt below self.now.thr && le self.now.thr above) }
+    {
+        below < self.thr && above >= self.thr
     }
-}
 
-fn is_long(fs: f64, e: KeyedElement) -> bool
-    ensures { result ≡ is_long fs e }
-{
-    e.end - e.start >= RISE_S * fs
-}
-
-// The key-down from up to i is counted, and stored if it is long enough.
-fn count_key_down(
-    row: &[f64],
-    thr: f64,
-    step: usize,
-    fs: f64,
-    up: usize,
-    i: usize,
-    found: Found,
-    elements: &mut [f64],
-) -> Found
-    requires ending { Ending found up i }
-    requires i_in_bounds { i < length row.now }
-    requires row_len_bound { (length row.now ≤ 2 ^ 20) × (step ≤ 64) }
-    requires row_in_bounds { ELEMENT * (length row.now / 2) ≤ length elements.old }
-    ensures { (result ≡ found_plus found (counts (λ k. get_or row.now k nan) thr step fs (key_down up i ∷ [])))
-        × (elements.new ≡ stored_from elements.old found.listed
-        (elements_of (λ k. get_or row.now k nan) thr step fs (key_down up i ∷ []))) }
-{
-    let e = element_of(row, thr, step, up, i);
-    if is_long(fs, e) {
-        put_element(elements, found.listed, e);
-        found.with_listed((i - up) * step)
-    } else {
-        found.with_short()
+    // The time of the crossing at i. Rust: `centre` and `cross` of find_elements.
+    fn crossing(&self, i: usize) -> f64
+        requires { (1 ≤ i) × (i < length self.now.row.now) }
+        ensures { result ≡ crossed_at (heights self.now.row.now) self.now.thr self.now.step i }
+    {
+        let a0 = self.row[i - 1];
+        let a1 = self.row[i];
+        centre((i - 1) * self.step, 8 * self.step) + (self.thr - a0) / (a1 - a0) * exact(self.step)
     }
-}
 
-// The downward crossing at i ends the key-down of the pending upward one, if there is one.
-fn close(
-    row: &[f64],
-    thr: f64,
-    step: usize,
-    fs: f64,
-    rising: Rising,
-    i: usize,
-    found: Found,
-    elements: &mut [f64],
-) -> Found
-    requires le_i { (1 ≤ i) × (i < length row.now) }
-    requires row_len_bound { (length row.now ≤ 2 ^ 20) × (step ≤ 64) }
-    requires row_in_bounds { ELEMENT * (length row.now / 2) ≤ length elements.old }
-    requires rising_value { rising ≡ pending (λ k. get_or row.now k nan) thr (i - 1) }
-    requires found_value { found ≡ found_to (λ k. get_or row.now k nan) thr step fs (i - 1) }
-    ensures { (result ≡ found_plus found (counts (λ k. get_or row.now k nan) thr step fs (ended rising i)))
-        × (elements.new ≡ stored_from elements.old found.listed
-        (elements_of (λ k. get_or row.now k nan) thr step fs (ended rising i))) }
-{
-    let Rising::At(up) = rising else {
-        return found;
-    };
-    count_key_down(row, thr, step, fs, up, i, found, elements)
-}
-
-// The key-downs of a row at a threshold: their counts, and those long enough as elements in the lent list.
-// Rust: the loop of find_elements, which counts nothing and lists start and end alone.
-pub fn scan(row: &[f64], thr: f64, step: usize, fs: f64, elements: &mut [f64]) -> Found
-    requires row_len_bound { (length row.now ≤ 2 ^ 20) × (step ≤ 64) }
-    requires row_in_bounds { ELEMENT * (length row.now / 2) ≤ length elements.old }
-    ensures { (result ≡ found_to (λ k. get_or row.now k nan) thr step fs (length row.now - 1))
-        × (elements.new ≡ stored elements.old
-        (elements_to (λ k. get_or row.now k nan) thr step fs (length row.now - 1))) }
-{
-    let n = row.len();
-    let mut rising = Rising::Nothing;
-    let mut found = Found::NO_KEY_DOWNS;
-    for i in 1..n {
-        if rises(row, thr, i) {
-            rising = Rising::At(i);
-        } else if falls(row, thr, i) {
-            found = close(row, thr, step, fs, rising, i, found, elements);
-            rising = Rising::Nothing;
+    // The element that the key-down from up to down is.
+    fn element(&self, up: usize, down: usize) -> KeyedElement
+        requires { (1 ≤ up) × (up < down) × (down < length self.now.row.now) }
+        ensures { result ≡ element_of (heights self.now.row.now) self.now.thr self.now.step (key_down up down) }
+    {
+        KeyedElement {
+            start: self.crossing(up),
+            end: self.crossing(down),
+            up: exact(up),
+            down: exact(down),
         }
     }
-    found
+
+    fn is_long(&self, e: KeyedElement) -> bool
+        ensures { result ≡ is_long self.now.fs e }
+    {
+        e.end - e.start >= RISE_S * self.fs
+    }
+
+    // The downward crossing at i ends the key-down of the pending upward one, if there is one. It is counted, and stored
+    // if it is long enough.
+    fn close(&self, rising: Option<usize>, i: usize, found: Found, elements: &mut [f64]) -> Found
+        requires le_i { (1 ≤ i) × (i < length self.now.row.now) }
+        requires row_in_bounds { ELEMENT * (length self.now.row.now / 2) ≤ length elements.old }
+        requires rising_value { rising ≡ pending (heights self.now.row.now) self.now.thr (i - 1) }
+        requires found_value { found ≡ found_to (heights self.now.row.now) self.now.thr self.now.step self.now.fs (i - 1) }
+        ensures { (result ≡ found_plus found (counts (heights self.now.row.now) self.now.thr self.now.step self.now.fs (ended rising i)))
+            × (elements.new ≡ stored_from elements.old found.listed
+            (elements_of (heights self.now.row.now) self.now.thr self.now.step self.now.fs (ended rising i))) }
+    {
+        let Some(up) = rising else {
+            return found;
+        };
+        let e = self.element(up, i);
+        if self.is_long(e) {
+            put_element(elements, found.listed, e);
+            found.with_listed((i - up) * self.step)
+        } else {
+            found.with_short()
+        }
+    }
+
+    // The key-downs of the row: their counts, and those long enough as elements in the lent list.
+    // Rust: the loop of find_elements, which counts nothing and lists start and end alone.
+    pub fn scan(&self, elements: &mut [f64]) -> Found
+        requires { ELEMENT * (length self.now.row.now / 2) ≤ length elements.old }
+        ensures { (result ≡ found_to (heights self.now.row.now) self.now.thr self.now.step self.now.fs (length self.now.row.now - 1))
+            × (elements.new ≡ stored elements.old
+            (elements_to (heights self.now.row.now) self.now.thr self.now.step self.now.fs (length self.now.row.now - 1))) }
+    {
+        let mut rising = None;
+        let mut found = Found::NO_KEY_DOWNS;
+        for (j, pair) in self.row.windows(2).enumerate() {
+            let i = j + 1;
+            if self.crosses(pair[0], pair[1]) {
+                rising = Some(i);
+            } else if self.crosses(pair[1], pair[0]) {
+                found = self.close(rising, i, found, elements);
+                rising = None;
+            }
+        }
+        found
+    }
 }

@@ -6,10 +6,13 @@ pub mod amplitude;
 pub mod element;
 pub mod find;
 pub mod keying;
+pub mod places;
 pub mod threshold;
 
 pub use amplitude::{AmplitudeRow, amplitude_row};
-pub use element::{ELEMENT, KeyedElement, element_at, element_from, put_element, put_element_from};
+pub use element::{
+    ELEMENT, Elements, KeyedElement, element_at, element_from, put_element, put_element_from,
+};
 pub use find::find_elements;
 pub use keying::Found;
-pub use threshold::Threshold;
+pub use places::Places;

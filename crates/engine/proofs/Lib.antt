@@ -1,9 +1,7 @@
 -- Laws on the run, by subject.
 
--- Takes     the four conditions, one after the other: `not_two`, `too_few`, `step_small`, `step_large`
 -- Counts    the counts of an estimate: `listed_room`, `fitted_room`, `fitted_le_listed`, `skipped_is`
 -- Ran       from what each step ensures to the run's definition: what it finds out, `found_out`, with `its_estimate`
 --           and `its_word`; how it ends, `ended`
-pub mod Takes
 pub mod Counts
 pub mod Ran

@@ -1,12 +1,12 @@
 -- The run: from what each of its steps ensures to its definition. Assumes nothing.
-use Prim.Native.Nat.{ℕ, ◌-◌, ◌*◌}
+use Prim.Native.Nat.{ℕ, ◌-◌}
 use mathlib.Core.Path.{◌≡◌, ap, ◌∙◌}
 use mathlib.Core.Bool.{Bool, cond}
 use mathlib.Core.List.{List}
 use lib.ListN.{length}
 use lib.Ieee.{Float}
 use Rattle.float.specs.Ops.{◌⊘◌}
-use Rattle.row.specs.Window.{step_of, samples}
+use Rattle.row.specs.Window.{window_of, samples}
 use Rattle.lists.specs.Records.{handed}
 use Rattle.elements.specs.Element.{ELEMENT, elements_in, handed_elements}
 use Rattle.elements.proofs.Records.{elements_read}
@@ -58,13 +58,13 @@ module _ (iq : List Float) (fs hint : Float) (e : Estimate) (q : e ≡ strong_es
   measures_of_lem m h = h ∙ rw (fits_are, elements_read els l e.found.listed (strong_elements iq fs hint) p, carrier_is)
 
   -- what it finds out
-  pub found_out : (step : ℕ) (m : Measures) (h : Hypothesis) (taken : Bool) → step ≡ step_of fs
+  pub found_out : (n window : ℕ) (m : Measures) (h : Hypothesis) (taken : Bool) → n ≡ samples iq → window ≡ window_of fs
       → m ≡ measures_of iq fs e.carrier_hz (fits_in fits e.fitted) (elements_in els e.found.listed)
       → h ≡ hypothesis_of m.evidence → taken ≡ takes h e.fitted e.carrier_step_hz m.residual
       → ◌≡◌ {A = RunFigures}
       (record {
-        samples = samples iq;
-        window = 8 * step;
+        samples = n;
+        window = window;
         estimate = e;
         skipped = e.found.listed - e.fitted;
         blocks = m.blocks;
@@ -76,13 +76,13 @@ module _ (iq : List Float) (fs hint : Float) (e : Estimate) (q : e ≡ strong_es
       })
       (run_figures iq fs hint)
   unfolding measures_of run_taken run_figures
-  found_out step m h taken s made told says =
+  found_out n window m h taken i s made told says =
       let all = measures_of_lem m made in
       let residual : m.residual ≡ run_residual iq fs hint = ap (λ (x : Measures). x.residual) all in
       let evidence : m.evidence ≡ run_evidence iq fs hint = ap (λ (x : Measures). x.evidence) all in
       let hypothesis : h ≡ hypothesis_of (run_evidence iq fs hint) = told ∙ ap hypothesis_of evidence in
       let taking : taken ≡ run_taken iq fs hint = says ∙ rw (hypothesis, fitted_is, step_is, residual) in
-      rw (s, skipped_is iq fs hint e q, q, all, hypothesis, taking)
+      rw (i, s, skipped_is iq fs hint e q, q, all, hypothesis, taking)
 
   -- how it ends
   pub ended : (taken : Bool) (buf : List Float) → taken ≡ run_taken iq fs hint

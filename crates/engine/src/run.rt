@@ -1,9 +1,8 @@
 // The run. The Rust leaves it to an engine whose files are not given; 01, part 7, says what it does.
 ghost use Rattle.std.specs.Prelude.{◌≡◌, cond, ◌*◌, ◌/◌, ◌≤◌, length};
 ghost use Rattle.float.specs.Ops.{◌⊘◌};
-ghost use Rattle.trig.specs.Circle.{quarter_sines};
 ghost use Rattle.row.specs.Samples.{Iq};
-ghost use Rattle.row.specs.Window.{Rate, step_blocks};
+ghost use Rattle.row.specs.Window.{step_blocks};
 ghost use Rattle.lists.specs.Records.{handed};
 ghost use Rattle.elements.specs.Element.{ELEMENT, handed_elements};
 ghost use Rattle.fits.specs.List.{FIT, fits_in, handed_fits};
@@ -13,9 +12,12 @@ ghost use Rattle.engine.specs.Run.{is_two, takes, run_figures, run_buffer};
 
 use classes::ClassCounts;
 use constants::{MAX_CARRIER_STEP_HZ, MIN_ELEMENTS};
-use fits::{Estimate, estimate_strong};
+use elements::Elements;
+use fits::{Estimate, Fits, estimate_strong};
 use measure::{Hypothesis, ResidualCheck, SecondCarrierEvidence, classify, measure_both};
+use row::{Recording, SampleRate, Samples};
 use synth::subtract;
+use trig::Sines;
 
 // Every figure of a run, and whether the strong sender was taken off.
 #[derive(Clone, Copy)]
@@ -35,96 +37,69 @@ pub struct RunFigures {
 fn is_two(h: Hypothesis) -> bool
     ensures { result ≡ is_two h }
 {
-    match h {
-        Hypothesis::OneSignal => false,
-        Hypothesis::TwoSignalCw { offset_hz: _ } => true,
-        Hypothesis::NonCw => false,
-        Hypothesis::Unresolved => false,
-    }
+    matches!(h, Hypothesis::TwoSignalCw { .. })
 }
 
 // Taken exactly when all four hold. A carrier step that is a NaN passes no comparison.
 fn takes_off(h: Hypothesis, fitted: usize, step: f64, check: ResidualCheck) -> bool
     ensures { result ≡ takes h fitted step check }
 {
-    if !is_two(h) {
-        return false;
-    }
-    if fitted < MIN_ELEMENTS {
-        return false;
-    }
     let size = float::abs(step);
-    if size <= MAX_CARRIER_STEP_HZ {
-        return check.clean();
-    }
-    false
+    is_two(h) && fitted >= MIN_ELEMENTS && size <= MAX_CARRIER_STEP_HZ && check.clean()
 }
 
-// How a run ends: the first `count` fits are subtracted, or the buffer is kept.
-fn subtract_where(
-    taken: bool,
-    buf: &mut [f32],
-    fs: f64,
-    carrier: f64,
-    fits: &[f64],
-    count: usize,
-    sine: &[f64; 1025],
-)
-    requires buf_len_bound { length buf.old ≤ 2097152 }
-    requires count_in_bounds { FIT * count ≤ length fits.now }
-    requires sine_value { sine.now ≡ quarter_sines }
+// How a run ends: the fits are subtracted, or the buffer is kept.
+fn subtract_where(taken: bool, buf: &mut [f32], fs: f64, carrier: f64, fits: &Fits, sine: &Sines)
+    requires { length buf.old ≤ 2097152 }
     ensures { buf.new
-        ≡ cond taken (subtracted fs (carrier ⊘ fs) buf.old (fits_in fits.now count)) buf.old }
+        ≡ cond taken (subtracted fs (carrier ⊘ fs) buf.old (fits_in fits.now.numbers.now fits.now.count)) buf.old }
 {
     if taken {
-        subtract(buf, fs, carrier, fits, count, sine);
+        subtract(buf, fs, carrier, fits, sine);
     }
 }
 
 // What a run finds out, of a recording that it only reads: estimate, residual, evidence, hypothesis, and whether all
 // four conditions hold. The lists receive the elements and the fits of the second pass.
 fn find_out(
-    iq: &[f32],
-    fs: f64,
+    recording: &Recording,
     hint: f64,
     elements: &mut [f64],
     fits: &mut [f64],
     work: &mut [f64],
-    sine: &[f64; 1025],
+    sine: &Sines,
 ) -> RunFigures
-    requires iq { Iq iq.now }
-    requires rate { Rate fs }
-    requires sine_value { sine.now ≡ quarter_sines }
-    requires fs_in_bounds { ELEMENT * (step_blocks iq.now fs / 2) ≤ length elements.old }
-    requires fs_in_bounds_2 { FIT * (step_blocks iq.now fs / 2) ≤ length fits.old }
-    requires fs_in_bounds_3 { 4 * step_blocks iq.now fs ≤ length work.old }
-    ensures { (result ≡ run_figures iq.now fs hint)
+    requires elements_room { ELEMENT * (step_blocks recording.now.samples.iq.now recording.now.rate.hz / 2) ≤ length elements.old }
+    requires fits_room { FIT * (step_blocks recording.now.samples.iq.now recording.now.rate.hz / 2) ≤ length fits.old }
+    requires work_room { 4 * step_blocks recording.now.samples.iq.now recording.now.rate.hz ≤ length work.old }
+    ensures { (result ≡ run_figures recording.now.samples.iq.now recording.now.rate.hz hint)
         × (handed_elements elements.new result.estimate.found.listed
-        ≡ handed ELEMENT (strong_elements iq.now fs hint) elements.old)
-        × (handed_fits fits.new result.estimate.fitted ≡ handed FIT (strong_fits iq.now fs hint) fits.old) }
+        ≡ handed ELEMENT (strong_elements recording.now.samples.iq.now recording.now.rate.hz hint) elements.old)
+        × (handed_fits fits.new result.estimate.fitted ≡ handed FIT (strong_fits recording.now.samples.iq.now recording.now.rate.hz hint) fits.old) }
 {
-    let samples = iq.len() / 2;
-    let window = 8 * row::edge_step(fs);
-    let estimate = estimate_strong(iq, fs, hint, elements, fits, work, sine);
+    let estimate = estimate_strong(recording, hint, elements, fits, work, sine);
     let carrier = estimate.carrier_hz;
-    let found = estimate.found;
-    let listed = found.listed;
-    let fitted = estimate.fitted;
-    let m = measure_both(iq, fs, carrier, elements, listed, fits, fitted, work, sine);
-    let classes = m.classes;
-    let residual = m.residual;
-    let evidence = m.evidence;
-    let hypothesis = classify(evidence);
-    let taken = takes_off(hypothesis, fitted, estimate.carrier_step_hz, residual);
+    let listed = Elements {
+        numbers: elements,
+        count: estimate.found.listed,
+    };
+    let fitted = Fits {
+        numbers: fits,
+        count: estimate.fitted,
+    };
+    let m = measure_both(recording, carrier, &listed, &fitted, work, sine);
+    let hypothesis = classify(m.evidence);
+    let step = estimate.carrier_step_hz;
+    let taken = takes_off(hypothesis, fitted.count, step, m.residual);
     RunFigures {
-        samples,
-        window,
+        samples: recording.samples.count(),
+        window: recording.rate.window(),
         estimate,
-        skipped: listed - fitted,
+        skipped: listed.count - fitted.count,
         blocks: m.blocks,
-        classes,
-        residual,
-        evidence,
+        classes: m.classes,
+        residual: m.residual,
+        evidence: m.evidence,
         hypothesis,
         taken,
     }
@@ -133,34 +108,39 @@ fn find_out(
 // It finds out, then it subtracts where it takes the strong sender off.
 pub fn run(
     buf: &mut [f32],
-    fs: f64,
+    rate: SampleRate,
     hint: f64,
     elements: &mut [f64],
     fits: &mut [f64],
     work: &mut [f64],
-    sine: &[f64; 1025],
+    sine: &Sines,
 ) -> RunFigures
     requires iq { Iq buf.old }
-    requires rate { Rate fs }
-    requires sine_value { sine.now ≡ quarter_sines }
-    requires fs_in_bounds { ELEMENT * (step_blocks buf.old fs / 2) ≤ length elements.old }
-    requires fs_in_bounds_2 { FIT * (step_blocks buf.old fs / 2) ≤ length fits.old }
-    requires fs_in_bounds_3 { 4 * step_blocks buf.old fs ≤ length work.old }
-    ensures { (result ≡ run_figures buf.old fs hint)
-        × (buf.new ≡ run_buffer buf.old fs hint)
+    requires elements_room { ELEMENT * (step_blocks buf.old rate.hz / 2) ≤ length elements.old }
+    requires fits_room { FIT * (step_blocks buf.old rate.hz / 2) ≤ length fits.old }
+    requires work_room { 4 * step_blocks buf.old rate.hz ≤ length work.old }
+    ensures { (result ≡ run_figures buf.old rate.hz hint)
+        × (buf.new ≡ run_buffer buf.old rate.hz hint)
         × (handed_elements elements.new result.estimate.found.listed
-        ≡ handed ELEMENT (strong_elements buf.old fs hint) elements.old)
-        × (handed_fits fits.new result.estimate.fitted ≡ handed FIT (strong_fits buf.old fs hint) fits.old) }
+        ≡ handed ELEMENT (strong_elements buf.old rate.hz hint) elements.old)
+        × (handed_fits fits.new result.estimate.fitted ≡ handed FIT (strong_fits buf.old rate.hz hint) fits.old) }
 {
-    let found = find_out(buf, fs, hint, elements, fits, work, sine);
+    let recording = Recording {
+        samples: Samples { iq: buf },
+        rate,
+    };
+    let found = find_out(&recording, hint, elements, fits, work, sine);
     let estimate = found.estimate;
+    let fitted = Fits {
+        numbers: fits,
+        count: estimate.fitted,
+    };
     subtract_where(
         found.taken,
         buf,
-        fs,
+        rate.hz,
         estimate.carrier_hz,
-        fits,
-        estimate.fitted,
+        &fitted,
         sine,
     );
     found

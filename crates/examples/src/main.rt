@@ -11,29 +11,24 @@ use std::{env, fs, io};
 
 // What an argument names: an open file, or one that is not there, of which every read fails.
 #[derive(Drop)]
-enum Opened<F> {
-    There(F),
-    Missing,
-}
+struct Opened<F>(Option<F>);
 
 impl<F: Read> Read for Opened<F> {
     fn read(&mut self, buf: &mut [u8]) -> io::Result<usize> {
-        match self {
-            Opened::There(file) => file.read(buf),
-            Opened::Missing => Err(Error::from(ErrorKind::NotFound)),
+        match &mut self.0 {
+            Some(file) => file.read(buf),
+            None => Err(Error::from(ErrorKind::NotFound)),
         }
     }
 }
 
 // Opens a file; says where there is none.
 fn open<R: Files + Print>(rt: &R, path: &str) -> io::Result<Opened<R::File>> {
-    match fs::open(rt, path) {
-        Ok(file) => Ok(Opened::There(file)),
-        Err(_) => {
-            print!(rt; "missing: ")?;
-            Ok(Opened::Missing)
-        }
+    let file = fs::open(rt, path).ok();
+    if file.is_none() {
+        print!(rt; "missing: ")?;
     }
+    Ok(Opened(file))
 }
 
 // A recording, read as the program `tankair` reads its input.
@@ -70,9 +65,11 @@ fn compare<R: Files + Print>(rt: &R, path: &str, piece: usize, stored: &[u8]) ->
 fn compare_pieces<R: Files + Print>(rt: &R, recording: &str, report: &str) -> io::Result<()> {
     let mut stored = [0u8; report::ROOM];
     let m = read_stored(open(rt, report)?, &mut stored);
-    compare(rt, recording, INPUT, &stored[..m])?;
-    compare(rt, recording, 1, &stored[..m])?;
-    compare(rt, recording, 1000, &stored[..m])
+    let stored = &stored[..m];
+    for piece in [INPUT, 1, 1000] {
+        compare(rt, recording, piece, stored)?;
+    }
+    Ok(())
 }
 
 // The program's own name comes first. Where the last recording has no report with it, that report is missing.

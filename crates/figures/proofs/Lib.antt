@@ -8,3 +8,5 @@
 --            `run_taken_lem`
 pub mod Checks
 pub mod Groups
+-- Absent      a number that may be absent: `value_is`
+pub mod Absent

@@ -1,8 +1,7 @@
 -- The figures of a hypothesis: its number and its offset (include/cancel.h). Definitions only.
-use Rattle.std.specs.Prelude.{ℕ, zero, suc, List, [], ◌∷◌, Float}
+use Rattle.std.specs.Prelude.{ℕ, zero, suc, List, [], ◌∷◌, Float, Some, None}
+use Rattle.std.specs.declared.option.Option.{Option}
 use Rattle.float.specs.Ops.{of}
-use Rattle.measure.specs.declared.offset.Offset.{Offset}
-use Rattle.measure.specs.declared.offset.Offset.TheVariants.{Hz, Absent}
 use Rattle.measure.specs.declared.hypothesis.Hypothesis.{Hypothesis}
 use Rattle.measure.specs.declared.hypothesis.Hypothesis.TheVariants.{OneSignal, TwoSignalCw, NonCw, Unresolved}
 use Rattle.figures.specs.declared.hypothesis.HypothesisCase.{HypothesisCase}
@@ -20,6 +19,6 @@ abbrev pub hypothesis_figures : Hypothesis → List Float
 hypothesis_figures h = (case_of h).number ∷ (case_of h).offset_hz ∷ []
 
 -- an offset that is given as two numbers: 0 says absent, anything else present
-abbrev pub given_offset : ℕ → Float → Offset
-given_offset zero f = Absent
-given_offset (suc n) f = Hz f
+abbrev pub given_offset : ℕ → Float → Option Float
+given_offset zero f = None
+given_offset (suc n) f = Some f

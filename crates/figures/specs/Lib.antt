@@ -3,6 +3,7 @@ pub mod Calls
 pub mod Clean
 pub mod Flag
 pub mod Measures
+pub mod Optional
 pub mod Places
 pub mod Hypothesis
 pub mod Rows

@@ -1,4 +1,4 @@
-// A yes or no as a figure.
+// A yes or no as a figure: the C interface hands out numbers alone.
 ghost use Rattle.std.specs.Prelude.{◌≡◌};
 ghost use Rattle.figures.specs.Flag.{flag_of};
 

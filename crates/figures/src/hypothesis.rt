@@ -3,9 +3,9 @@ ghost use Rattle.std.specs.Prelude.{◌≡◌};
 ghost use Rattle.figures.specs.Hypothesis.{case_of, hypothesis_figures, given_offset};
 
 use crate::places::CLASSIFY_FIGURES;
-use measure::{Hypothesis, Offset};
+use measure::Hypothesis;
 
-// A case of the hypothesis as numbers.
+// A case of the hypothesis as numbers: the C interface hands out numbers alone.
 #[derive(Clone, Copy)]
 pub struct HypothesisCase {
     pub number: f64,
@@ -42,12 +42,9 @@ pub fn of_hypothesis(h: Hypothesis) -> [f64; CLASSIFY_FIGURES]
     [c.number, c.offset_hz]
 }
 
-// The offset of an evidence that is given as two numbers, present and the offset.
-pub fn given_offset(present: u64, hz: f64) -> Offset
+// The offset of an evidence that is given as two numbers, present and the offset: the C interface hands it in so.
+pub fn given_offset(present: u64, hz: f64) -> Option<f64>
     ensures { result ≡ given_offset present hz }
 {
-    if present == 0 {
-        return Offset::Absent;
-    }
-    Offset::Hz(hz)
+    if present == 0 { None } else { Some(hz) }
 }

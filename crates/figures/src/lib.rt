@@ -2,14 +2,15 @@
 // answers are compared by them.
 #![tactic(auto)]
 
-mod calls;
+pub mod calls;
 mod clean;
 mod flag;
 mod hypothesis;
-mod measures;
+pub mod measures;
+mod optional;
 mod places;
-mod rows;
-mod running;
+pub mod rows;
+pub mod running;
 
 pub use calls::{of_estimate, of_find, of_fit};
 pub use clean::{given_check, of_clean};

@@ -4,7 +4,7 @@ ghost use Rattle.figures.specs.Running.{ran_figures};
 
 use crate::flag::flag;
 use crate::hypothesis::case_of;
-use crate::measures::{hertz, present};
+use crate::optional::{present, value};
 use crate::places::RUN_FIGURES;
 use engine::RunFigures;
 use float::from_whole;
@@ -44,7 +44,7 @@ pub fn of_run(f: RunFigures) -> [f64; RUN_FIGURES]
         from_whole(evidence.gap_blocks),
         evidence.hot_fraction,
         present(offset),
-        hertz(offset),
+        value(offset),
         evidence.coherence,
         h.number,
         h.offset_hz,

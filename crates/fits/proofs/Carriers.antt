@@ -1,7 +1,6 @@
 -- Sums over the fits of a list, and the mean slope.
-use Prim.Native.Nat.{ℕ, ◌+◌, ◌≤◌}
+use Prim.Native.Nat.{ℕ, ◌+◌}
 use native.Mathlib.Numerals.{add-one}
-use native.Mathlib.Omega.{arith}
 use mathlib.Core.Path.{◌≡◌, refl}
 use mathlib.Core.Bool.{true, false}
 use mathlib.Core.List.{List}
@@ -15,7 +14,7 @@ use Rattle.lists.specs.Sums.{sum_over}
 use Rattle.fits.specs.Carrier.{fit_weight, weighted_slope, mean_slope}
 use Rattle.lists.proofs.Sums.{over_more}
 
--- A loop over the fits of a list, at place k: before it, a turn of it, and after it.
+-- A loop over the fits of a list, at place k: before it, and a turn of it.
 module _ (figure : ElementFit → Float) (l : List Float) where
   pub over_none : plus_zero ≡ sum_over figure plus_zero (fits_in l 0)
   unfolding sum_over fits_in firsts
@@ -25,9 +24,6 @@ module _ (figure : ElementFit → Float) (l : List Float) where
       → acc ≡ sum_over figure plus_zero (fits_in l k) → f ≡ fit_at l k → x ≡ figure f → r ≡ acc ⊕ x → r ≡ sum_over figure plus_zero (fits_in l (k + 1))
   unfolding fits_in firsts
   over_turn k acc x r f p e q h = rw (add-one, over_more figure plus_zero (firsts (fit_at l) k) (fit_at l k), ← e, ← q, ← p, h)
-
-  pub over_done : (n k : ℕ) (acc : Float) → acc ≡ sum_over figure plus_zero (fits_in l k) → k ≤ n → n ≤ k → acc ≡ sum_over figure plus_zero (fits_in l n)
-  over_done n k acc p h g = let all : k ≡ n = omega arith in rw all at p
 
 -- ---- the two ways out of `mean_slope_hz`
 module _ (fs : Float) (fits : List ElementFit) (num den : Float) (n : num ≡ sum_over (weighted_slope fs) plus_zero fits) (d : den ≡ sum_over (fit_weight fs) plus_zero fits) where

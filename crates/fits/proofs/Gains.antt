@@ -2,6 +2,8 @@
 -- (`found_gain`). The sum of the terms is bounded by laws on sines and samples; the sum of the weights, by which it is
 -- divided, is above zero where there is a fit, and then at least 2 ^ -54, since each weight is 0.5 − z for some z.
 -- Assumes nothing.
+use Rattle.std.proofs.Common.{Some, None}
+use Rattle.std.specs.declared.option.Option.{Option}
 use Prim.Native.Nat.{ℕ, zero, suc, ◌+◌, ◌-◌, ◌*◌, ◌^◌, ◌≤◌, ◌<◌}
 use native.Mathlib.Nat.{suc-mul}
 use native.Mathlib.Omega.{arith}
@@ -28,11 +30,8 @@ use Rattle.row.proofs.Bounds.{derot_bounded}
 use Rattle.elements.specs.declared.element.KeyedElement.{KeyedElement}
 use Rattle.elements.specs.Find.{elements_found}
 use Rattle.elements.proofs.Bounds.{found_bounded}
-use Rattle.interiors.specs.declared.interior.Interior.{Interior}
-use Rattle.interiors.specs.declared.interior.Interior.TheVariants.{Inside, Nothing}
+use Rattle.row.specs.declared.span.Span.{Span}
 use Rattle.fits.specs.declared.fit.ElementFit.{ElementFit}
-use Rattle.fits.specs.declared.fit.Fit.{Fit}
-use Rattle.fits.specs.declared.fit.Fit.TheVariants.{Fitted, Skipped}
 use Rattle.interiors.specs.Interior.{interior_of, slope_block}
 use Rattle.interiors.specs.Gain.{hann, leveled, gain_sum, hann_sum}
 use Rattle.fits.specs.Fit.{fit_inside, fit_within, fit_of}
@@ -109,31 +108,28 @@ module _ (iq : List Float) (cyc : Float) (s : Singles iq) (q : Iq iq) where
       }
 
   -- ---- a fit's
-  not_fitted : (f : ElementFit) → Skipped ≡ Fitted f → ⊥
-  not_fitted f e = let no : ◌≡◌ {A = ℕ} 0 1 = cc in omega arith
-
-  inside_gain : (block : ℕ) (e : KeyedElement) (i0 i1 : ℕ) (f : ElementFit) → i0 ≤ i1 → 2 * i1 ≤ length iq → fit_inside iq cyc block e i0 i1 ≡ Fitted f → CBounded 355 1 f.gain
+  inside_gain : (block : ℕ) (e : KeyedElement) (i0 i1 : ℕ) (f : ElementFit) → i0 ≤ i1 → 2 * i1 ≤ length iq → fit_inside iq cyc block e i0 i1 ≡ Some f → CBounded 355 1 f.gain
   unfolding fit_inside
   inside_gain block e i0 i1 f ordered h = go (le (hann_sum (i1 - i0)) plus_zero) refl _ refl
     where
       go : (b : Bool) → le (hann_sum (i1 - i0)) plus_zero ≡ b → (g : ElementFit) → g.gain ≡ c_div (gain_sum iq cyc i0 (i1 - i0) g.slope_rad_per_sample g.ref_sample) (hann_sum (i1 - i0))
-          → cond b Skipped (Fitted g) ≡ Fitted f → CBounded 355 1 f.gain
-      go true p g is e = absurd (not_fitted f e)
+          → cond b None (Some g) ≡ Some f → CBounded 355 1 f.gain
+      go true p g is e = absurd (cc)
       go false p g is e =
           let same : g ≡ f = cc in
           subst (λ (x : ElementFit). CBounded 355 1 x.gain) same
           (subst (CBounded 355 1) (sym is) (gain_bounded i0 (i1 - i0) g.slope_rad_per_sample g.ref_sample (omega (arith, q.short)) (omega arith) p))
 
-  fit_gain : (fs : Float) → Rate fs → (e : KeyedElement) → Timed e → (f : ElementFit) → fit_of iq fs cyc e ≡ Fitted f → CBounded 355 1 f.gain
+  fit_gain : (fs : Float) → Rate fs → (e : KeyedElement) → Timed e → (f : ElementFit) → fit_of iq fs cyc e ≡ Some f → CBounded 355 1 f.gain
   unfolding fit_of fit_within
   fit_gain fs r e timed f p = go (interior_of (samples iq) fs e.start e.end) refl p
     where
-      go : (i : Interior) → i ≡ interior_of (samples iq) fs e.start e.end → fit_within iq cyc (slope_block fs) e i ≡ Fitted f → CBounded 355 1 f.gain
-      go (Inside i0 i1) h p =
+      go : (i : Option Span) → i ≡ interior_of (samples iq) fs e.start e.end → fit_within iq cyc (slope_block fs) e i ≡ Some f → CBounded 355 1 f.gain
+      go (Some i) h p =
           let few : samples iq ≤ 2 ^ 20 = omega (arith, q.short) in
-          let w = interior_within fs r (samples iq) few e.start e.end timed.first timed.last i0 i1 h in
-          inside_gain (slope_block fs) e i0 i1 f (omega (arith, w.0)) (omega (arith, w.1)) p
-      go Nothing h p = absurd (not_fitted f p)
+          let w = interior_within fs r (samples iq) few e.start e.end timed.first timed.last i.lo i.hi h in
+          inside_gain (slope_block fs) e i.lo i.hi f (omega (arith, w.0)) (omega (arith, w.1)) p
+      go None h p = absurd (cc)
 
 -- ---- of every element found
 module _ (iq : List Float) (fs carrier : Float) (s : Singles iq) (q : Iq iq) (r : Rate fs) where
@@ -144,11 +140,11 @@ module _ (iq : List Float) (fs carrier : Float) (s : Singles iq) (q : Iq iq) (r 
       ⊎_elim (one (fit_of iq fs (carrier ⊘ fs) e) refl) (fits_gain es (λ d w. timed d (Memᴰ.tail w)) f)
       (Memᴰ.append_cases (if_fitted (fit_of iq fs (carrier ⊘ fs) e)) m)
     where
-      one : (d : Fit) → fit_of iq fs (carrier ⊘ fs) e ≡ d → Memᴰ f (if_fitted d) → CBounded 355 1 f.gain
-      one (Fitted g) p w =
+      one : (d : Option ElementFit) → fit_of iq fs (carrier ⊘ fs) e ≡ d → Memᴰ f (if_fitted d) → CBounded 355 1 f.gain
+      one (Some g) p w =
           let same : f ≡ g = Memᴰ.eq_of_singleton w in
           subst (λ (x : ElementFit). CBounded 355 1 x.gain) (sym same) (fit_gain iq (carrier ⊘ fs) s q fs r e (timed e (Memᴰ.head refl)) g p)
-      one Skipped p w = absurd (Memᴰ.not-nil w)
+      one None p w = absurd (Memᴰ.not-nil w)
 
   pub found_gain : (f : ElementFit) → Memᴰ f (fits_found iq fs carrier) → CBounded 355 1 f.gain
   unfolding fits_found

@@ -1,4 +1,6 @@
 -- The loop of `fit_elements`: the fits of the elements behind it are stored, and counted.
+use Rattle.std.proofs.Common.{Some, None}
+use Rattle.std.specs.declared.option.Option.{Option}
 use Prim.Native.Nat.{ℕ, ◌+◌, ◌*◌, ◌≤◌}
 use native.Mathlib.Numerals.{add-one}
 use native.Mathlib.Omega.{arith}
@@ -14,8 +16,6 @@ use Rattle.lists.specs.Records.{handed, stored_by}
 use Rattle.elements.specs.Element.{element_at, elements_in}
 use Rattle.lists.proofs.Records.{stored_append}
 use Rattle.fits.specs.declared.fit.ElementFit.{ElementFit}
-use Rattle.fits.specs.declared.fit.Fit.{Fit}
-use Rattle.fits.specs.declared.fit.Fit.TheVariants.{Fitted, Skipped}
 use Rattle.fits.specs.Fit.{fit_of}
 use Rattle.fits.specs.List.{FIT, fit_from, handed_fits, if_fitted, fits_of}
 use Rattle.fits.specs.Inner.{put_fit_from, put_fit, fits_from, fits_stored}
@@ -23,11 +23,11 @@ use Rattle.fits.proofs.Fitted.{one_fit, fitted_few}
 use Rattle.fits.proofs.Records.{fit_kind, fits_handed}
 
 -- ---- the two ways out of `keep`
-pub keep_none : (l : List Float) (p : ℕ) (fit : Fit) → fit ≡ Skipped → (p ≡ p + length (if_fitted fit)) × (l ≡ fits_from l p (if_fitted fit))
+pub keep_none : (l : List Float) (p : ℕ) (fit : Option ElementFit) → fit ≡ None → (p ≡ p + length (if_fitted fit)) × (l ≡ fits_from l p (if_fitted fit))
 unfolding stored_by
 keep_none l p fit e = (rw e (omega arith), rw e refl)
 
-pub keep_one : (l new : List Float) (p : ℕ) (fit : Fit) (f : ElementFit) → fit ≡ Fitted f → new ≡ put_fit l p f
+pub keep_one : (l new : List Float) (p : ℕ) (fit : Option ElementFit) (f : ElementFit) → fit ≡ Some f → new ≡ put_fit l p f
     → (p + 1 ≡ p + length (if_fitted fit)) × (new ≡ fits_from l p (if_fitted fit))
 unfolding stored_by
 keep_one l new p fit f e h = (rw e refl, rw e h)
@@ -39,7 +39,7 @@ unfolding fits_of
 fits_more iq fs carrier [] e = append-nil (if_fitted (fit_of iq fs (carrier ⊘ fs) e))
 fits_more iq fs carrier (d ∷ es) e = rw (fits_more iq fs carrier es e, append_assoc)
 
-pub fits_few : (fitted r k : ℕ) (fit : Fit) → fitted ≤ k → r ≡ fitted + length (if_fitted fit) → r ≤ k + 1
+pub fits_few : (fitted r k : ℕ) (fit : Option ElementFit) → fitted ≤ k → r ≡ fitted + length (if_fitted fit) → r ≤ k + 1
 fits_few fitted r k fit h e = let one = one_fit fit in omega arith
 
 -- A loop over the elements of a list, at place k: before it, a turn of it, and after it.
@@ -51,7 +51,7 @@ module _ (iq : List Float) (fs carrier : Float) (l first : List Float) where
   unfolding elements_in fits_of firsts stored_by
   fits_none = (refl, refl)
 
-  pub fits_turn : (k fitted r : ℕ) (cur new : List Float) (e : KeyedElement) (fit : Fit)
+  pub fits_turn : (k fitted r : ℕ) (cur new : List Float) (e : KeyedElement) (fit : Option ElementFit)
       → fitted ≡ length (fits_to k) → cur ≡ fits_stored first (fits_to k) → e ≡ element_at l k → fit ≡ fit_of iq fs (carrier ⊘ fs) e
       → r ≡ fitted + length (if_fitted fit) → new ≡ fits_from cur fitted (if_fitted fit)
       → (r ≡ length (fits_to (k + 1))) × (new ≡ fits_stored first (fits_to (k + 1)))

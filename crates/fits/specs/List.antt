@@ -1,6 +1,7 @@
 -- Fits in a lent list (01, "Where cancel.rs leans on Rust"), and `fit_elements` of a list of elements (01, part 4).
 -- Definitions only.
-use Rattle.std.specs.Prelude.{ℕ, ◌+◌, ◌*◌, Bool, true, false, List, [], ◌∷◌, ◌++◌, get_or, Float}
+use Rattle.std.specs.Prelude.{ℕ, ◌+◌, ◌*◌, Bool, true, false, List, [], ◌∷◌, ◌++◌, get_or, Float, Some, None}
+use Rattle.std.specs.declared.option.Option.{Option}
 use Rattle.std.specs.Float.{nan}
 use Rattle.float.specs.Ops.{◌⊘◌}
 use Rattle.lists.specs.Firsts.{firsts}
@@ -10,8 +11,6 @@ use Rattle.elements.specs.declared.element.KeyedElement.{KeyedElement}
 use Rattle.lists.specs.Records.{Handed, handed}
 use Rattle.elements.specs.Element.{ELEMENT, element_from}
 use Rattle.fits.specs.declared.fit.ElementFit.{ElementFit}
-use Rattle.fits.specs.declared.fit.Fit.{Fit}
-use Rattle.fits.specs.declared.fit.Fit.TheVariants.{Fitted, Skipped}
 use Rattle.fits.specs.Fit.{fit_of}
 
 -- A fit has the numbers of its element and four more; a place is one record.
@@ -42,9 +41,9 @@ handed_fits l count = handed FIT (fits_in l count) l
 -- ---- the fits of a list of elements
 
 -- the fit of an element that gets one, as a list
-abbrev pub if_fitted : Fit → List ElementFit
-if_fitted (Fitted f) = f ∷ []
-if_fitted Skipped = []
+abbrev pub if_fitted : Option ElementFit → List ElementFit
+if_fitted (Some f) = f ∷ []
+if_fitted None = []
 
 -- `fit_elements`: the fits of those elements, in order, that get one
 unfoldable pub fits_of : List Float → Float → Float → List KeyedElement → List ElementFit
@@ -52,9 +51,9 @@ fits_of iq fs carrier [] = []
 fits_of iq fs carrier (e ∷ es) = if_fitted (fit_of iq fs (carrier ⊘ fs) e) ++ fits_of iq fs carrier es
 
 -- Skipped = listed and not fitted.
-abbrev pub is_skipped : Fit → Bool
-is_skipped (Fitted f) = false
-is_skipped Skipped = true
+abbrev pub is_skipped : Option ElementFit → Bool
+is_skipped (Some f) = false
+is_skipped None = true
 
 unfoldable pub skipped_of : List Float → Float → Float → List KeyedElement → List KeyedElement
 skipped_of iq fs carrier es = those (λ e. is_skipped (fit_of iq fs (carrier ⊘ fs) e)) es

@@ -1,12 +1,12 @@
 // The mean slope of a list of fits.
-ghost use Rattle.std.specs.Prelude.{◌≡◌, ◌*◌, ◌≤◌, length};
+ghost use Rattle.std.specs.Prelude.{◌≡◌};
 ghost use Rattle.float.specs.Ops.{plus_zero};
-ghost use Rattle.fits.specs.List.{FIT, fits_in};
+ghost use Rattle.fits.specs.List.{fits_in};
 ghost use Rattle.fits.specs.Carrier.{fit_weight, weighted_slope, mean_slope};
 ghost use Rattle.lists.specs.Sums.{sum_over};
 
 use crate::fit::ElementFit;
-use crate::list::fit_at;
+use crate::list::{Fits, fit_at};
 use constants::RISE_S;
 use trig::TAU;
 
@@ -25,14 +25,14 @@ pub struct Slopes {
     pub den: f64,
 }
 
-fn sum_slopes(fits: &[f64], n: usize, fs: f64) -> Slopes
-    requires { FIT * n ≤ length fits.now }
-    ensures { (result.num ≡ sum_over (weighted_slope fs) plus_zero (fits_in fits.now n)) × (result.den ≡ sum_over (fit_weight fs) plus_zero (fits_in fits.now n)) }
+fn sum_slopes(fits: &Fits, fs: f64) -> Slopes
+    ensures { let all = fits_in fits.now.numbers.now fits.now.count in (result.num ≡ sum_over (weighted_slope fs) plus_zero all)
+        × (result.den ≡ sum_over (fit_weight fs) plus_zero all) }
 {
     let mut num = 0.0;
     let mut den = 0.0;
-    for k in 0..n {
-        let f = fit_at(fits, k);
+    for place in fits.each() {
+        let f = fit_at(place, 0);
         let w = fit_weight(f, fs);
         num = num + w * f.slope_rad_per_sample;
         den = den + w;
@@ -40,12 +40,11 @@ fn sum_slopes(fits: &[f64], n: usize, fs: f64) -> Slopes
     Slopes { num, den }
 }
 
-// Rust: mean_slope_hz, of the first n fits of a list.
-pub fn mean_slope_hz(fits: &[f64], n: usize, fs: f64) -> f64
-    requires { FIT * n ≤ length fits.now }
-    ensures { result ≡ mean_slope fs (fits_in fits.now n) }
+// Rust: mean_slope_hz.
+pub fn mean_slope_hz(fits: &Fits, fs: f64) -> f64
+    ensures { result ≡ mean_slope fs (fits_in fits.now.numbers.now fits.now.count) }
 {
-    let s = sum_slopes(fits, n, fs);
+    let s = sum_slopes(fits, fs);
     if s.den > 0.0 {
         s.num / s.den * fs / TAU
     } else {

@@ -1,17 +1,18 @@
 // The fit of one element.
-ghost use Rattle.std.specs.Prelude.{◌≡◌, ◌+◌, ◌-◌, ◌*◌, ◌/◌, ◌≤◌, ◌<◌, length};
-ghost use Rattle.trig.specs.Circle.{quarter_sines};
-ghost use Rattle.row.specs.Samples.{Iq};
-ghost use Rattle.row.specs.Window.{Rate, step_blocks};
+ghost use Rattle.std.specs.Prelude.{◌≡◌, ◌-◌, ◌*◌, ◌/◌, ◌≤◌, ◌<◌, length};
+ghost use Rattle.row.specs.Window.{step_blocks};
 ghost use Rattle.fits.specs.Fit.{fit_inside, fit_of};
 ghost use Rattle.fits.specs.Inner.{Timed};
 
 use complex::Complex;
 use elements::KeyedElement;
 use interiors::gain::weigh;
-use interiors::interior::{Interior, interior_of, slope_block};
-use interiors::kept::{derotate, room_for};
+use interiors::interior::{interior_of, slope_block};
+use interiors::kept::Kept;
 use interiors::slope::phase_slope;
+use interiors::stretch::Stretch;
+use row::{Recording, Samples, Span};
+use trig::Sines;
 
 // Rust: ElementFit.
 #[derive(Clone, Copy)]
@@ -22,42 +23,39 @@ pub struct ElementFit {
     pub ref_sample: f64,
 }
 
-// What `fit_elements` has for an element: its fit, or nothing where it is skipped.
-#[derive(Clone, Copy)]
-pub enum Fit {
-    Fitted(ElementFit),
-    Skipped,
-}
-
-// Rust: `fit_elements`, of one element whose interior goes from i0 up to, not including, i1.
+// Rust: `fit_elements`, of one element with its interior. None where it is skipped. The work slice has the points of
+// the slope fit at its start, and kept samples behind them.
 fn fit_inside(
-    iq: &[f32],
+    samples: &Samples,
     cyc: f64,
     block: usize,
     e: KeyedElement,
-    i0: usize,
-    i1: usize,
+    inside: Span,
     work: &mut [f64],
-    sine: &[f64; 1025],
-) -> Fit
-    requires iq { Iq iq.now }
-    requires sine_value { sine.now ≡ quarter_sines }
-    requires i0_lt_i1 { i0 < i1 }
-    requires i1_in_bounds { 2 * i1 ≤ length iq.now }
+    sine: &Sines,
+) -> Option<ElementFit>
+    requires some { inside.lo < inside.hi }
+    requires within { 2 * inside.hi ≤ length samples.now.iq.now }
     requires le_block { 1 ≤ block }
-    requires block_in_bounds { 2 * ((i1 - i0) / block) ≤ length work.old }
-    ensures { result ≡ fit_inside iq.now cyc block e i0 i1 }
+    requires room { 2 * ((inside.hi - inside.lo) / block) ≤ length work.old }
+    ensures { result ≡ fit_inside samples.now.iq.now cyc block e inside.lo inside.hi }
 {
-    let len = i1 - i0;
-    let reference = float::exact(i0 + i1 - 1) / 2.0;
-    let kept = room_for(len, len / block, work.len());
-    derotate(iq, cyc, i0, kept, work, sine);
-    let slope = phase_slope(iq, cyc, i0, len, block, kept, work, sine);
-    let w = weigh(iq, cyc, i0, len, slope, reference, kept, work, sine);
+    let len = inside.hi - inside.lo;
+    let reference = float::exact(inside.lo + inside.hi - 1) / 2.0;
+    let stretch = Stretch {
+        samples: *samples,
+        cyc,
+        i0: inside.lo,
+        len,
+    };
+    let (points, room) = work.split_at_mut(2 * (len / block));
+    let kept = Kept::new(stretch, room, sine);
+    let slope = phase_slope(&kept, block, points, sine);
+    let w = weigh(&kept, slope, reference, sine);
     if w.weight <= 0.0 {
-        return Fit::Skipped;
+        return None;
     }
-    Fit::Fitted(ElementFit {
+    Some(ElementFit {
         element: e,
         gain: w.sum.div_real(w.weight),
         slope_rad_per_sample: slope,
@@ -67,24 +65,20 @@ fn fit_inside(
 
 // Rust: `fit_elements`, of one element.
 pub fn fit_one(
-    iq: &[f32],
-    fs: f64,
+    recording: &Recording,
     cyc: f64,
     e: KeyedElement,
     work: &mut [f64],
-    sine: &[f64; 1025],
-) -> Fit
-    requires iq { Iq iq.now }
-    requires rate { Rate fs }
-    requires sine_value { sine.now ≡ quarter_sines }
+    sine: &Sines,
+) -> Option<ElementFit>
     requires timed { Timed e }
-    requires fs_in_bounds { 4 * step_blocks iq.now fs ≤ length work.old }
-    ensures { result ≡ fit_of iq.now fs cyc e }
+    requires work_room { 4 * step_blocks recording.now.samples.iq.now recording.now.rate.hz ≤ length work.old }
+    ensures { result ≡ fit_of recording.now.samples.iq.now recording.now.rate.hz cyc e }
 {
-    let n = iq.len() / 2;
+    let fs = recording.rate.hz;
     let block = slope_block(fs);
-    let Interior::Inside { first, past } = interior_of(n, fs, e.start, e.end) else {
-        return Fit::Skipped;
+    let Some(inside) = interior_of(recording.samples.count(), fs, e.start, e.end) else {
+        return None;
     };
-    fit_inside(iq, cyc, block, e, first, past, work, sine)
+    fit_inside(&recording.samples, cyc, block, e, inside, work, sine)
 }

@@ -8,5 +8,5 @@ pub mod list;
 
 pub use carrier::mean_slope_hz;
 pub use estimate::{Estimate, estimate_strong};
-pub use fit::{ElementFit, Fit, fit_one};
-pub use list::{FIT, fit_at, fit_elements, put_fit};
+pub use fit::{ElementFit, fit_one};
+pub use list::{FIT, Fits, fit_at, fit_elements, put_fit};

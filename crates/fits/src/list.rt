@@ -1,19 +1,22 @@
 // Fits in a lent list, and the fits of a list of elements.
 ghost use Rattle.std.specs.Prelude.{◌≡◌, ◌+◌, ◌*◌, ◌≤◌, length};
-ghost use Rattle.trig.specs.Circle.{quarter_sines};
-ghost use Rattle.row.specs.Samples.{Iq};
-ghost use Rattle.row.specs.Window.{Rate, step_blocks};
+ghost use Rattle.row.specs.Window.{step_blocks};
 ghost use Rattle.lists.specs.Records.{handed};
-ghost use Rattle.elements.specs.Element.{ELEMENT, elements_in};
+ghost use Rattle.elements.specs.Element.{elements_in};
 ghost use Rattle.fits.specs.List.{FIT, fit_at, handed_fits, if_fitted, fits_of};
 ghost use Rattle.fits.specs.Inner.{AllTimed, put_fit, fits_from};
 
-use crate::fit::{ElementFit, Fit, fit_one};
+use crate::fit::{ElementFit, fit_one};
 use complex::Complex;
-use elements::{ELEMENT, element_at, element_from, put_element_from};
+use elements::{ELEMENT, Elements, Places, element_at, element_from, put_element_from};
+use row::Recording;
+use trig::Sines;
 
 // How many numbers a fit has in a list, a place: those of its element and four more.
 pub const FIT: usize = ELEMENT + 4;
+
+// The first fits of a list.
+pub type Fits<'a> = Places<'a, FIT>;
 
 // A fit at place p: the numbers of its element, then the gain's two, slope and reference.
 pub fn put_fit(out: &mut [f64], p: usize, f: ElementFit)
@@ -49,44 +52,36 @@ pub fn fit_at(row: &[f64], p: usize) -> ElementFit
 }
 
 // A fit goes to place p; a skipped element leaves none. The answer is the next place.
-fn keep(fits: &mut [f64], p: usize, fit: Fit) -> usize
+fn keep(fits: &mut [f64], p: usize, fit: Option<ElementFit>) -> usize
     requires { FIT * p + FIT ≤ length fits.old }
     ensures { (result ≡ p + length (if_fitted fit)) × (fits.new ≡ fits_from fits.old p (if_fitted fit)) }
 {
-    let Fit::Fitted(f) = fit else {
+    let Some(f) = fit else {
         return p;
     };
     put_fit(fits, p, f);
     p + 1
 }
 
-// Rust: fit_elements. The elements are the first `count` of a list, the fits go into another, and the answer is their
-// number.
+// Rust: fit_elements. The fits go into a list, and the answer is their number.
 pub fn fit_elements(
-    iq: &[f32],
-    fs: f64,
+    recording: &Recording,
     carrier: f64,
-    elements: &[f64],
-    count: usize,
+    elements: &Elements,
     fits: &mut [f64],
     work: &mut [f64],
-    sine: &[f64; 1025],
+    sine: &Sines,
 ) -> usize
-    requires iq { Iq iq.now }
-    requires rate { Rate fs }
-    requires sine_value { sine.now ≡ quarter_sines }
-    requires all_timed { AllTimed elements.now count }
-    requires count_in_bounds { ELEMENT * count ≤ length elements.now }
-    requires count_in_bounds_2 { FIT * count ≤ length fits.old }
-    requires fs_in_bounds { 4 * step_blocks iq.now fs ≤ length work.old }
-    ensures { (result ≡ length (fits_of iq.now fs carrier (elements_in elements.now count)))
-        × (handed_fits fits.new result
-        ≡ handed FIT (fits_of iq.now fs carrier (elements_in elements.now count)) fits.old) }
+    requires all_timed { AllTimed elements.now.numbers.now elements.now.count }
+    requires fits_room { FIT * elements.now.count ≤ length fits.old }
+    requires work_room { 4 * step_blocks recording.now.samples.iq.now recording.now.rate.hz ≤ length work.old }
+    ensures { let all = fits_of recording.now.samples.iq.now recording.now.rate.hz carrier (elements_in elements.now.numbers.now elements.now.count) in
+        (result ≡ length all) × (handed_fits fits.new result ≡ handed FIT all fits.old) }
 {
-    let cyc = carrier / fs;
+    let cyc = carrier / recording.rate.hz;
     let mut fitted: usize = 0;
-    for k in 0..count {
-        let fit = fit_one(iq, fs, cyc, element_at(elements, k), work, sine);
+    for place in elements.each() {
+        let fit = fit_one(recording, cyc, element_at(place, 0), work, sine);
         fitted = keep(fits, fitted, fit);
     }
     fitted

@@ -5,7 +5,7 @@ use mathlib.Core.Bool.{false≢true}
 use native.Mathlib.Nat.{le_of_mul-le-mul_right}
 use native.Mathlib.Decide.{dec_lt}
 use borrow.Author.Tests.{le-leb}
-use lib.Ieee.{Float, nan, inf, fin, binary64, up, down, odd, round, neg, rem, lt, fits, of_fields, of_bits, to_bits, is_nan, div}
+use lib.Ieee.{Float, nan, inf, fin, binary64, up, down, odd, round, neg, rem, lt, fits, of_fields, of_bits, to_bits, is_nan}
 use lib.Ieee.Bits.{of_bits-to_bits}
 use lib.Ieee.Exact.{HasValue, odd_sign}
 use lib.Ieee.Fits.{up_pos, down_pos, neg-fits}
@@ -80,7 +80,6 @@ pub record Sizes (x y : Float) : Type 0 where
   pub x_is : of_bits binary64 (to_bits binary64 x) ≡ x
   pub y_is : of_bits binary64 (to_bits binary64 y) ≡ y
   pub x_number : T (not (is_nan x))
-  pub y_number : T (not (is_nan y))
 
 plus_fits : (s : Bool) (m : ℕ) (e : ℤ) → T (fits binary64 (fin s m e)) → T (fits binary64 (fin false m e))
 unfolding neg
@@ -109,7 +108,6 @@ two_sizes m n e d t u p h =
       x_is = of_bits-to_bits binary64 (fin false m e) t;
       y_is = of_bits-to_bits binary64 (fin false n d) u;
       x_number = is_number (fin false m e) m e refl;
-      y_number = is_number (fin false n d) n d refl;
     }
 
 not_below_inf : (s : Bool) (m : ℕ) (e : ℤ) → T (not (lt (fin s m e) (inf false))) → ⊥
@@ -167,23 +165,19 @@ sign_minus (fin false m e) (fin r n d) z f p h = absurd (T_not (lt (fin false m 
 sign_minus (fin true m e) (fin r n d) z f p h = minus_round n (m * up e * down d % (n * up d * down e)) (down e * down d)
 
 -- ---- no number
-none_by_none : div binary64 (of_bits binary64 0) (of_bits binary64 0) ≡ nan
-unfolding of_bits div
-none_by_none = refl
-
-pub not_finite : (a b : Float) → finite_f (abs_of a) ≡ false → div binary64 (of_bits binary64 0) (of_bits binary64 0) ≡ rem binary64 a b
+pub not_finite : (a b : Float) → finite_f (abs_of a) ≡ false → nan ≡ rem binary64 a b
 unfolding abs_of finite_f rem
-not_finite nan b h = none_by_none
-not_finite (inf s) b h = none_by_none
+not_finite nan b h = refl
+not_finite (inf s) b h = refl
 not_finite (fin s m e) b h = absurd (true≢false h)
 
-pub no_divisor : (a b : Float) → T (not (lt nought (abs_of b))) → T (not (lt (abs_of a) (abs_of b))) → div binary64 (of_bits binary64 0) (of_bits binary64 0) ≡ rem binary64 a b
+pub no_divisor : (a b : Float) → T (not (lt nought (abs_of b))) → T (not (lt (abs_of a) (abs_of b))) → nan ≡ rem binary64 a b
 unfolding abs_of rem
-no_divisor nan b z h = none_by_none
-no_divisor (inf s) b z h = none_by_none
-no_divisor (fin s m e) nan z h = none_by_none
+no_divisor nan b z h = refl
+no_divisor (inf s) b z h = refl
+no_divisor (fin s m e) nan z h = refl
 no_divisor (fin s m e) (inf r) z h = absurd (not_below_inf false m e h)
-no_divisor (fin s m e) (fin r zero d) z h = none_by_none
+no_divisor (fin s m e) (fin r zero d) z h = refl
 no_divisor (fin s m e) (fin r (suc n) d) z h = absurd (T_not (lt nought (fin false (suc n) d)) z (over_zero (fin false (suc n) d) (suc n * up d) (down d) (mul-pos (zero-lt-suc n) (up_pos d)) (refl, refl)))
 
 -- ---- as the code has them: x and y are |a| and |b|, r says whether x is finite

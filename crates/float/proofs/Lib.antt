@@ -28,13 +28,14 @@
 -- Patterns, Narrowing     bit patterns, and the f32 nearest to an f64
 -- Squares, Roots, Value, Meaning     the square root; `sqrt_nearest`: of each value above zero, no other value of the
 --             format is as near to it; `nearest_unique`; `in_units`: a finite value is a number of units
+-- Sqrt        the logic's own square root, which std's method gives, is `sqrt_of`: `sqrt_is`
 -- Ties, Rounding     what `round` means: no other value of the format is as near, a tie goes to the even one, and
 --             from which size on it is infinite: `round_rounded`, `rounded_unique`, `last_bit`; and
 --             so of all that is defined by it: `narrow_rounded`, `of_rounded`, `fraction_rounded`, `add_rounded`,
 --             `sub_rounded`, `mul_rounded`, `div_rounded`
 -- Unrounded   floor, ceil, round lose nothing to the format: `floor_exact`, `ceil_exact`, `nearest_exact`
 -- Literals    what the small literals are; 01's examples of `round` and `rem_euclid`
--- Finiteness  `finite_not_nan`, `below_top`, `not_below_top`
+-- Finiteness  `finite_not_nan`; std's word for it: `finite_is`
 pub mod Literals
 pub mod Finiteness
 pub mod Digits
@@ -57,6 +58,7 @@ pub mod Squares
 pub mod Roots
 pub mod Value
 pub mod Meaning
+pub mod Sqrt
 pub mod Bounds
 pub mod Parts
 pub mod Amounts

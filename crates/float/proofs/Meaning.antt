@@ -11,11 +11,10 @@ use lib.Ieee.Exact.{HasValue, units_val}
 use lib.Ieee.Scale.{finite}
 use Rattle.float.specs.Root.{isqrt, root_of, sqrt_of}
 use Rattle.float.specs.Nearest.{Nearest, RootRounded}
-use Rattle.float.specs.Inner.{NearRoot, Rooted}
 use Rattle.float.proofs.Digits.{pow_lt→lt, halves}
 use Rattle.float.proofs.Exactly.{fits_parts, exponent}
 use Rattle.float.proofs.Compared.{nought}
-use Rattle.float.proofs.Squares.{square_lt_back, square_next, near_down, near_up, near_under}
+use Rattle.float.proofs.Squares.{NearRoot, square_lt_back, near_under}
 use Rattle.float.proofs.Roots.{IsRoot, isqrt_is, root_at}
 use Rattle.float.proofs.Value.{sqrt_of_value}
 
@@ -36,7 +35,7 @@ digits f (fin s m e) t a h v =
     record { m = m; j = x.0; is = eq_of_mul-eq-mul_right (down e) (down_pos e) a (m * 2 ^ x.0) (sym v.1 ∙ x.1); few = w.0 }
 
 -- it lies below 2 ^ (emax + 1)
-under_top : (f : Format) (y : Float) (a : ℕ) → T (fits f y) → HasValue y false a (2 ^ low f) → a < 2 ^ suc (emax f) * 2 ^ low f
+pub under_top : (f : Format) (y : Float) (a : ℕ) → T (fits f y) → HasValue y false a (2 ^ low f) → a < 2 ^ suc (emax f) * 2 ^ low f
 under_top f nan a h v = absurd v
 under_top f (inf s) a h v = absurd v
 under_top f (fin s m e) a h v =
@@ -76,26 +75,24 @@ full p m h k =
 -- ---- every number above 0 has a whole number nearest to its root
 
 near_from : (n q : ℕ) → 0 < n → IsRoot n q → (c : ℕ) × NearRoot n c
-near_from n q h r = go (dec_le (n - q * q) q)
+near_from n zero h r = absurd (omega (arith, r.most))
+near_from n (suc q) h r = go (dec_le n (suc q * suc q + suc q))
   where
-    rooted : Rooted n q (n - q * q)
-    rooted = record { whole = omega (arith, r.least); left = omega (arith, r.least, r.most) }
-
-    go : Dec (n - q * q ≤ q) → (c : ℕ) × NearRoot n c
-    go (yes l) = (q, near_down n q (n - q * q) h rooted l)
-    go (no l) = (q + 1, near_up n q (n - q * q) rooted (lt_of_not-le l))
+    go : Dec (n ≤ suc q * suc q + suc q) → (c : ℕ) × NearRoot n c
+    go (yes l) = (suc q, record { above = omega (arith, r.least); below = l })
+    go (no l) = let g = lt_of_not-le l in (suc q + 1, record { above = omega arith; below = omega (arith, r.most) })
 
 near_exists : (n : ℕ) → 0 < n → (c : ℕ) × NearRoot n c
 near_exists n h = near_from n (isqrt n) h (isqrt_is n)
 
 near_at_least : (n b c : ℕ) → b * b ≤ n → NearRoot n c → b ≤ c
-near_at_least n b c h k = le_of_suc-le-suc (subst (λ (x : ℕ). b < x) (plus c) (square_lt_back b (c + 1) (omega (arith, k.below, square_next c))))
+near_at_least n b c h k = le_of_suc-le-suc (subst (λ (x : ℕ). b < x) (plus c) (square_lt_back b (c + 1) (omega (arith, k.below))))
   where
     plus : (c : ℕ) → c + 1 ≡ suc c
     plus c = omega arith
 
 near_at_most : (n b c : ℕ) → n < b * b → NearRoot n c → c ≤ b
-near_at_most n b c h k = le_of_suc-le-suc (subst (λ (x : ℕ). c < x) (plus b) (near_under n (b + 1) c (omega arith) (omega (arith, square_next b)) k.above))
+near_at_most n b c h k = le_of_suc-le-suc (subst (λ (x : ℕ). c < x) (plus b) (near_under n (b + 1) c (omega arith) (omega arith) k.above))
   where
     plus : (c : ℕ) → c + 1 ≡ suc c
     plus c = omega arith
@@ -199,7 +196,7 @@ room : (f : Format) → 2 * (prec f - 1) ≤ low f
 room binary32 = lit≤ tt
 room binary64 = lit≤ tt
 
-wide : (f : Format) → 2 ≤ suc (emax f)
+pub wide : (f : Format) → 2 ≤ suc (emax f)
 wide binary32 = lit≤ tt
 wide binary64 = lit≤ tt
 

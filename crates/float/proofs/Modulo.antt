@@ -23,14 +23,9 @@ mod_scale a m c h k =
     ∙ ap (λ (x : ℕ). (a % m) * c + x) (mul-mod_left a c)
     ∙ omega arith
 
--- eleven digits
-pub eleven : (r n left : ℕ) → 11 ≤ left → r * 2048 % n * 2 ^ (left - 11) % n ≡ r * 2 ^ left % n
-eleven r n left h =
-    mul-mod_first (r * 2048) (2 ^ (left - 11)) n
-    ∙ ap (λ (x : ℕ). x % n) (mul_assoc r 2048 (2 ^ (left - 11)) ∙ ap (λ (x : ℕ). r * x) (sym (pow-add 2 11 (left - 11)) ∙ ap (λ (i : ℕ). 2 ^ i) back))
-  where
-    back : 11 + (left - 11) ≡ left
-    back = omega arith
+-- a digits put behind m, and b more
+pub more_digits : (m n a b c : ℕ) → a + b ≡ c → m * 2 ^ a % n * 2 ^ b % n ≡ m * 2 ^ c % n
+more_digits m n a b c e = mul-mod_first (m * 2 ^ a) (2 ^ b) n ∙ ap (λ (x : ℕ). x % n) (mul_assoc m (2 ^ a) (2 ^ b) ∙ ap (λ (x : ℕ). m * x) (sym (pow-add 2 a b) ∙ ap (λ (i : ℕ). 2 ^ i) e))
 
 -- ---- a % b of two values, as fractions
 crossed : (x y de dd a b c : ℕ) → x * c ≡ a * de → y * c ≡ b * dd → 0 < b → 0 < de → 0 < dd → 0 < c → 0 < y * de → x * dd % (y * de) * c ≡ (a % b) * (de * dd)

@@ -4,10 +4,11 @@
 use Rattle.std.proofs.Common.{◌≡◌, ℕ, zero, suc, ◌+◌, ◌-◌, ◌*◌, ◌/◌, ◌%◌, ◌^◌, ◌<◌, ◌≤◌, Bool, true, false, cond, not, T, eqb, ltb, ◌⊎◌, sym, refl, ap, ◌∙◌, subst, inl, inr, le_trans, le_of_eq, le_refl, lt_of_lt_of_le, lt_of_le_of_lt, mul-le-mul_right, mod-eq_of_lt, mul_assoc, div-lt_iff_lt-mul, mul-le-mul, add_comm, eq-or-lt_of_le, mul-lt-mul_of_pos_right, mul-pos, le-div_iff_mul-le, add-one, arith, lit<, lit≤, eqb→eq, ltb→lt, nltb→le, pow_pos, pow_mono, pow-add, shl_lt, shr_lt}
 use Prim.Native.Nat.{compare, Ordering}
 use native.Mathlib.Nat.{add-mul-div_right, div-eq_of_lt, pow-succ'}
+use mathlib.Core.Bool.{false≢true}
 use lib.Dec.{not_T}
 use lib.Arith.{le→nltb}
 use lib.Pow.{pow-lt}
-use lib.Ieee.{Float, nan, inf, fin, Format, binary32, binary64, prec, emax, low, hid, ones, up, down, size, nearest, odd, units, round, of_fields, of_bits, to_bits, nan_bits, is_nan, ne, fits}
+use lib.Ieee.{Float, nan, inf, fin, Format, binary32, binary64, prec, emax, low, hid, ones, up, down, size, nearest, odd, units, round, of_fields, of_bits, to_bits, nan_bits, is_nan, fits}
 use lib.Ieee.Digits.{size-le}
 use lib.Ieee.Fits.{core, round_is, odd-fits, down_pos, nearest-le}
 use lib.Ieee.Bits.{of_bits-fits, cond_no, of_bits-to_bits, nan_bits_is, nan_bits_above}
@@ -363,11 +364,11 @@ with_sign b r h w = go (b / 0x8000_0000_0000_0000) refl
         one q b x h e f = omega arith
 
 -- what is no NaN has a pattern up to the infinity's
-pub not_nan : (x : Float) → T (not (ne x x)) → T (not (is_nan x))
-unfolding ne is_nan
-not_nan nan h = absurd h
-not_nan (inf s) h = tt
-not_nan (fin s m e) h = tt
+pub narrow_nan : (x : Float) → is_nan x ≡ true → nan ≡ narrow_of x
+unfolding is_nan narrow_of
+narrow_nan nan h = refl
+narrow_nan (inf s) h = absurd (false≢true h)
+narrow_nan (fin s m e) h = absurd (false≢true h)
 
 pub magnitude_le : (x : Float) → T (fits binary64 x) → T (not (is_nan x)) → to_bits binary64 x % 0x8000_0000_0000_0000 ≤ 0x7ff0_0000_0000_0000
 magnitude_le x t h =

@@ -4,6 +4,7 @@
 -- Over any format, with infinities and negative values among the operands. Assumes nothing.
 use Rattle.std.proofs.Common.{◌≡◌, ℕ, zero, suc, ◌+◌, ◌-◌, ◌*◌, ◌/◌, ◌^◌, ◌<◌, ◌≤◌, min, Bool, true, false, cond, not, ◌||◌, T, eqb, ltb, ℤ, sym, refl, ap, ◌∙◌, subst, inl, inr, zero-le, le_trans, le_of_eq, le_refl, lt_irrefl, mul_assoc, mul_comm, eq-zero-or-pos, mul-le-mul, mul-pos, zero-mul, not-le_of_lt, mul_left_comm, arith, lit<, eqb→eq, ltb→lt, lt→ltb, nltb→le, pow_pos}
 use native.Mathlib.Nat.{div-eq_of_lt}
+use Rattle.std.proofs.Math.Nat.{min-le_right}
 use lib.Ieee.{Float, nan, inf, fin, Format, prec, emax, low, up, down, odd, units, round, sum, sub, div, lt, le, to_unsigned}
 use lib.Ieee.Fits.{round_is, up_pos, down_pos, and_r}
 use lib.Ieee.Exact.{HasValue, round_exact}
@@ -16,9 +17,6 @@ use Rattle.float.proofs.Compared.{nought, lt→cross, lt_or_eq}
 -- ---- `to_unsigned` keeps the order
 min_mono : (a b c : ℕ) → a ≤ b → min a c ≤ min b c
 min_mono a b c h = omega arith
-
-min_le : (a c : ℕ) → min a c ≤ c
-min_le a c = omega arith
 
 -- not negative, and at most a negative value: zero
 no_size : (m u d : ℕ) → 0 < u → 0 < d → m * u * d ≡ 0 → m ≡ 0
@@ -43,7 +41,7 @@ unsigned_mono w (inf false) (fin t n d) h = absurd h
 unsigned_mono w (fin s m e) nan h = absurd h
 unsigned_mono w (fin true m e) (inf t) h = zero-le
 unsigned_mono w (fin false m e) (inf true) h = absurd h
-unsigned_mono w (fin false m e) (inf false) h = min_le (m * up e / down e) (2 ^ w - 1)
+unsigned_mono w (fin false m e) (inf false) h = min-le_right (m * up e / down e) (2 ^ w - 1)
 unsigned_mono w (fin true m e) (fin t n d) h = zero-le
 unsigned_mono w (fin false m e) (fin true n d) h =
     let z : m ≡ 0 = no_size m (up e) (down d) (up_pos e) (down_pos d) (eqb→eq (m * up e * down d) 0 (and_r (eqb (m * up e * down d) (n * up d * down e)) (eqb (m * up e * down d) 0) h)) in

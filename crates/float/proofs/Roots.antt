@@ -2,14 +2,14 @@
 use Rattle.std.proofs.Common.{◌≡◌, ℕ, zero, suc, ◌+◌, ◌-◌, ◌*◌, ◌/◌, ◌^◌, ◌<◌, ◌≤◌, Bool, true, false, cond, not, T, leb, sym, refl, ap, ◌∙◌, subst, le_trans, le_of_eq, lt_of_lt_of_le, le_of_suc-le-suc, lt_of_le_of_lt, mul-le-mul_right, mul_assoc, lt-suc_self, div-lt_iff_lt-mul, mul-le-mul, lt_of_mul-lt-mul_right, mul-pos, pow-suc, div-mul-le_self, le_of_mul-le-mul_right, add-one, arith, lit≤, leb→le, pow_pos, pow-add}
 use Prim.Native.Nat.{compare, Ordering}
 use native.Mathlib.Nat.{mul-mul-mul_comm, eq_of_mul-eq-mul_right}
+use Rattle.std.proofs.Math.Nat.{pow-le-pow_left}
 use lib.Dec.{nleb→lt}
 use lib.Ieee.{Float, Format, prec, size, nearest, units}
 use lib.Ieee.Digits.{size-lt}
 use lib.Ieee.Fits.{two}
 use Rattle.float.specs.Root.{digit, root, isqrt, root_of}
-use Rattle.float.specs.Inner.{NearRoot}
 use Rattle.float.proofs.Digits.{size_exact, Cmp, cmp}
-use Rattle.float.proofs.Squares.{square_lt_back, near_unique}
+use Rattle.float.proofs.Squares.{NearRoot, square_lt_back, near_unique}
 
 -- ---- the largest q with q * q at most n
 
@@ -29,13 +29,9 @@ unfolding root
 root_is zero n h = record { least = omega arith; most = omega arith }
 root_is (suc d) n h = digit_is n (root d (n / 4)) (root_is d (n / 4) ((div-lt_iff_lt-mul {k = 4} (lit≤ tt)).1 (subst (λ (x : ℕ). n < x) (pow-suc 4 d) h)))
 
-two_four : (d : ℕ) → 2 ^ d ≤ 4 ^ d
-two_four zero = lit≤ tt
-two_four (suc d) = subst (λ (x : ℕ). x ≤ 4 ^ suc d) (sym (pow-suc 2 d)) (subst (λ (x : ℕ). 2 ^ d * 2 ≤ x) (sym (pow-suc 4 d)) (mul-le-mul (two_four d) (lit≤ tt)))
-
 pub isqrt_is : (n : ℕ) → IsRoot n (isqrt n)
 unfolding isqrt
-isqrt_is n = root_is (size n) n (lt_of_lt_of_le (size-lt n) (two_four (size n)))
+isqrt_is n = root_is (size n) n (lt_of_lt_of_le (size-lt n) (pow-le-pow_left (lit≤ tt) (size n)))
 
 -- ---- the root of p * u ^ 2, cut by u, is the root of p
 

@@ -1,6 +1,6 @@
 -- `floor`, `ceil` and `round` on a value above zero: below 2 ^ 52 by the whole number next to it (`small_is`), and
 -- from there on the value itself, which is whole (`large`); then by sign. Assumes nothing.
-use Rattle.std.proofs.Common.{◌≡◌, ℕ, zero, suc, ◌+◌, ◌-◌, ◌*◌, ◌/◌, ◌%◌, ◌^◌, ◌<◌, ◌≤◌, Bool, true, false, not, T, ℤ, pos, negsuc, sym, refl, ap, ◌∙◌, subst, true≢false, le_trans, le_of_eq, lt_of_lt_of_le, mul-le-mul_right, zero-lt-suc, div-lt_iff_lt-mul, mul-pos, one-mul, zero-mul, mul-one, not-le_of_lt, add-one, arith, lit<, lit≤, ltb→lt, lt→ltb, nltb→le, T_not, pow_pos}
+use Rattle.std.proofs.Common.{◌≡◌, ℕ, zero, suc, ◌+◌, ◌-◌, ◌*◌, ◌/◌, ◌%◌, ◌^◌, ◌<◌, ◌≤◌, Bool, true, false, cond, not, T, ℤ, pos, negsuc, sym, refl, ap, ◌∙◌, subst, true≢false, le_trans, le_of_eq, lt_of_lt_of_le, mul-le-mul_right, zero-lt-suc, div-lt_iff_lt-mul, mul-pos, one-mul, zero-mul, mul-one, not-le_of_lt, add-one, arith, lit<, lit≤, ltb→lt, lt→ltb, nltb→le, T_not, pow_pos}
 use native.Mathlib.Nat.{pow-succ'}
 use lib.Ieee.{Float, nan, inf, fin, binary64, up, down, round, add, sub, neg, lt, le, of_int, to_unsigned, fits}
 use lib.Ieee.Fits.{down_pos, up_pos}
@@ -8,10 +8,10 @@ use lib.Ieee.Exact.{HasValue}
 use lib.Ieee.Positive.{above, above_of_le}
 use Rattle.float.specs.Whole.{cut, lifted, half_up, whole_by}
 use Rattle.float.proofs.Exactly.{fits_says, fits_parts, zero_exp, few_exact, rest_few, round_self, neg_round}
-use Rattle.float.proofs.Compared.{nought, lt→cross, nlt→cross, le→value, nle→value, under_power, over_power, unsigned_value}
+use Rattle.float.proofs.Compared.{nought, yes, no, lt→cross, nlt→cross, le→value, nle→value, under_power, over_power, unsigned_value}
 use Rattle.float.proofs.Sums.{not_under}
 use Rattle.float.proofs.Counts.{whole_value, whole_add, whole_sub}
-use Rattle.float.proofs.Picks.{Steps, wholly, stays, split, lifted_next, lifted_same, half_next, half_same}
+use Rattle.float.proofs.Picks.{Steps, cut_steps, lifted_steps, half_steps, wholly, stays, split, lifted_next, lifted_same, half_next, half_same}
 use Rattle.float.proofs.Cuts.{limit, bounced, gap, Bounce, over, under, bounce_is}
 
 -- ---- a value above zero and below the limit
@@ -182,6 +182,29 @@ large pick i (fin false (suc m) (negsuc l)) t h k =
     absurd (too_long (suc m) (2 ^ l) (pow_pos l) (fits_says binary64 false m (negsuc l) t).1
     (le_trans (le_of_eq (ap (λ (z : ℕ). 2 ^ 52 * z) (sym (pow-succ' 2 l)))) (le_trans (over_power (fin false (suc m) (negsuc l)) (suc m * 1) (2 ^ suc l) 52 (pow_pos (suc l)) (refl, refl) k) (le_of_eq (mul-one (suc m))))))
 
+-- what is mended below the limit and stays from there on
+mended_is : (pick : ℕ → ℕ → ℕ) → Steps pick → (x r more same : Float) (test : Bool) → (Small x → (T test → more ≡ whole_by pick x) × (T (not test) → same ≡ whole_by pick x))
+    → T (fits binary64 x) → T (lt nought x) → (T (lt x limit) → r ≡ cond test more same) → (T (not (lt x limit)) → r ≡ x) → r ≡ whole_by pick x
+mended_is pick i x r more same test by t h below whole = go (lt x limit) refl
+  where
+    made : (b : Bool) → (T b → more ≡ whole_by pick x) → (T (not b) → same ≡ whole_by pick x) → cond b more same ≡ whole_by pick x
+    made true f g = f tt
+    made false f g = g tt
+
+    go : (b : Bool) → lt x limit ≡ b → r ≡ whole_by pick x
+    go true e = let s = by (small_is x t h (yes e)) in below (yes e) ∙ made test s.0 s.1
+    go false e = whole (no e) ∙ large pick i x t h (no e)
+
+module _ (x r : Float) where
+  pub down_is : T (fits binary64 x) → T (lt nought x) → (T (lt x limit) → r ≡ cond (lt x (bounced x)) (sub binary64 (bounced x) unit) (bounced x)) → (T (not (lt x limit)) → r ≡ x) → r ≡ whole_by cut x
+  down_is = mended_is cut cut_steps x r _ _ _ (λ s. (s.down_more, s.down_same))
+
+  pub up_is : T (fits binary64 x) → T (lt nought x) → (T (lt x limit) → r ≡ cond (lt (bounced x) x) (add binary64 (bounced x) unit) (bounced x)) → (T (not (lt x limit)) → r ≡ x) → r ≡ whole_by lifted x
+  up_is = mended_is lifted lifted_steps x r _ _ _ (λ s. (s.up_more, s.up_same))
+
+  pub near_is : T (fits binary64 x) → T (lt nought x) → (T (lt x limit) → r ≡ cond (le half (gap x)) (add binary64 (bounced x) unit) (bounced x)) → (T (not (lt x limit)) → r ≡ x) → r ≡ whole_by half_up x
+  near_is = mended_is half_up half_steps x r _ _ _ (λ s. (s.near_more, s.near_same))
+
 -- neither above nor below zero: a NaN or a zero
 zero_keeps : (pick : ℕ → ℕ → ℕ) → Steps pick → (s : Bool) (e : ℤ) → T (fits binary64 (fin s 0 e)) → fin s 0 e ≡ round binary64 s (pick (0 * up e) (down e)) 1
 zero_keeps pick i s e t =
@@ -237,3 +260,12 @@ module _ (pick : Bool → ℕ → ℕ → ℕ) where
   pub none_is : ((s : Bool) → Steps (pick s)) → (x : Float) → T (not (lt nought x)) → T (not (lt x nought)) → T (fits binary64 x) → x ≡ wholly pick x
   unfolding wholly
   none_is steps = unsigned_only (λ (x : Float). T (fits binary64 x) → x ≡ wholly pick x) (λ _. refl) (λ s e. zero_keeps (pick s) (steps s) s e)
+
+  pub signed_is : ((s : Bool) → Steps (pick s)) → (x r : Float) → T (fits binary64 x) → (T (lt nought x) → r ≡ whole_by (pick false) x)
+      → (T (lt x nought) → (z : Float) × (z ≡ whole_by (pick true) (neg x)) × (r ≡ neg z)) → (T (not (lt nought x)) → T (not (lt x nought)) → r ≡ x) → r ≡ wholly pick x
+  signed_is steps x r t above below none = go (lt nought x) (lt x nought) refl refl
+    where
+      go : (a b : Bool) → lt nought x ≡ a → lt x nought ≡ b → r ≡ wholly pick x
+      go true b e f = above (yes e) ∙ plus_is x (yes e)
+      go false true e f = let z = below (yes f) in z.2 ∙ ap neg z.1 ∙ minus_is x (yes f)
+      go false false e f = none (no e) (no f) ∙ none_is steps x (no e) (no f) t

@@ -1,5 +1,5 @@
--- Not needed to read a public promise: what the functions that `narrow` and `sqrt` are made of ensure, in bit patterns
--- and whole numbers. Definitions only.
+-- Not needed to read a public promise: what the functions that `narrow` and `rem_euclid` are made of ensure, in bit
+-- patterns and whole numbers. Definitions only.
 use Rattle.std.specs.Prelude.{◌≡◌, ℕ, ◌+◌, ◌-◌, ◌*◌, ◌/◌, ◌%◌, ◌^◌, ◌<◌, ◌≤◌, Bool, cond, from_bits, nat_lt}
 use Rattle.std.specs.Float.{binary32, binary64}
 use Rattle.float.specs.Single.{narrow_of}
@@ -11,32 +11,11 @@ pub record Narrowed (a r : ℕ) : Type 0 where
   pub small : r ≤ 0x7f80_0000
   pub is : (s : Bool) → narrow_of (from_bits binary64 (cond s (2 ^ 63) 0 + a)) ≡ from_bits binary32 (cond s (2 ^ 31) 0 + r)
 
--- ---- sqrt
-
--- c is the whole number nearest to the root of p: (2 * c - 1) ^ 2 < 4 * p < (2 * c + 1) ^ 2. (No root is half-way
--- between two whole numbers.)
-pub record NearRoot (p c : ℕ) : Type 0 where
-  pub above : c * c < p + c
-  pub below : p ≤ c * c + c
-
--- q is the whole part of the root of n, and r what is left over
-pub record Rooted (n q r : ℕ) : Type 0 where
-  pub whole : q * q + r ≡ n
-  pub left : r ≤ 2 * q
+-- ---- a % b
 
 -- the number of smallest values that a bit pattern with the sign clear stands for, below the infinity's
 unfoldable pub counted : ℕ → ℕ
 counted b = cond (nat_lt b (2 ^ 52)) b ((2 ^ 52 + b % 2 ^ 52) * 2 ^ (b / 2 ^ 52 - 1))
-
--- n is written m * 2 ^ e with an m of 53 digits
-pub record Scaled (n m e : ℕ) : Type 0 where
-  pub value : m * 2 ^ e ≡ n
-  pub least : 2 ^ 52 ≤ m
-  pub most : m < 2 ^ 53
-  pub floor : 1022 ≤ e
-  pub ceil : e ≤ 3119
-
--- ---- a % b
 
 -- a bit pattern with the sign clear, below the infinity's, stands for m * 2 ^ e smallest values; m has 53 digits where e
 -- is above 0

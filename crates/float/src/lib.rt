@@ -7,8 +7,8 @@ pub mod single;
 pub mod size;
 pub mod whole;
 
-pub use compare::{abs, least, max};
+pub use compare::{abs, max};
 pub use remainder::{rem_euclid, rem_one};
 pub use single::narrow;
-pub use size::{finite, finite_single};
+pub use size::{Number, finite};
 pub use whole::{TWO_52, ceil, exact, floor, from_whole, round, to_whole};

@@ -18,6 +18,7 @@ struct Units {
 }
 
 // What a bit pattern with the sign clear stands for.
+#[tactic(auto, using(crate::proofs::Modulo::low_units, crate::proofs::Modulo::high_units))]
 fn in_units(b: u64) -> Units
     requires { b < 0x7ff0_0000_0000_0000 }
     ensures { InUnits b result.digits result.exponent }
@@ -62,12 +63,10 @@ fn shifted(m: u64, k: u64, n: u64) -> u64
     ensures { result ≡ m * 2 ^ k % n }
 {
     let mut r = m % n;
-    let mut left = k;
-    while 11 <= left {
+    for _ in 0..k / 11 {
         r = r * 2048 % n;
-        left = left - 11;
     }
-    few_digits(r, left, n)
+    few_digits(r, k % 11, n)
 }
 
 // a % b of two bit patterns with the sign clear, the first not below the second.
@@ -95,7 +94,7 @@ fn rem(a: f64, b: f64) -> f64
         return a;
     }
     if !finite(size) {
-        return 0.0 / 0.0;
+        return f64::NAN;
     }
     if by > 0.0 {
         let r = rem_bits(f64::to_bits(size), f64::to_bits(by));
@@ -104,10 +103,11 @@ fn rem(a: f64, b: f64) -> f64
         }
         return r;
     }
-    0.0 / 0.0
+    f64::NAN
 }
 
 // Rust: f64::rem_euclid.
+#[tactic(auto, unfolding(crate::specs::Remainder::rem_euclid_of))]
 pub fn rem_euclid(a: f64, b: f64) -> f64
     ensures { result ≡ rem_euclid_of a b }
 {

@@ -1,19 +1,37 @@
 // Whether a number is finite.
-ghost use Rattle.std.specs.Prelude.{◌≡◌};
+ghost use Rattle.std.specs.Prelude.{◌≡◌, Float};
 ghost use Rattle.float.specs.Size.{finite_f};
 
-// Rust: f64::is_finite.
-pub fn finite(x: f64) -> bool
-    ensures { result ≡ finite_f x }
-{
-    let top = f64::from_bits(0x7ff0_0000_0000_0000);
-    x < top && x > -top
+// A number of either format.
+pub trait Number: Copy {
+    // What it is in the logic.
+    ghost value: { Self → Float };
+
+    fn is_finite(self) -> bool
+        ensures { result ≡ finite_f (value self) };
 }
 
-// Rust: f32::is_finite.
-pub fn finite_single(x: f32) -> bool
-    ensures { result ≡ finite_f x }
+impl Number for f64 {
+    ghost value = { λ x. x };
+
+    #[tactic(auto, using(crate::proofs::Finiteness::finite_is))]
+    fn is_finite(self) -> bool {
+        f64::is_finite(self)
+    }
+}
+
+impl Number for f32 {
+    ghost value = { λ x. x };
+
+    #[tactic(auto, using(crate::proofs::Finiteness::finite_is))]
+    fn is_finite(self) -> bool {
+        f32::is_finite(self)
+    }
+}
+
+// Rust: f64::is_finite and f32::is_finite.
+pub fn finite<T: Number>(x: T) -> bool
+    ensures { result ≡ finite_f (T.value x) }
 {
-    let top = f32::from_bits(0x7f80_0000);
-    x < top && x > -top
+    x.is_finite()
 }

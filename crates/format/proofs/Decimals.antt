@@ -3,11 +3,11 @@
 use Prim.Native.Nat.{ℕ, zero, suc, ◌+◌, ◌-◌, ◌*◌, ◌/◌, ◌%◌, ◌^◌, ◌≤◌, ◌<◌}
 use native.Mathlib.Omega.{arith}
 use native.Mathlib.Nat.{pow-zero, pow-suc, one-le-pow, pow-le-pow_right, le_of_suc-le-suc, lt_of_not-le}
-use mathlib.Core.Path.{◌≡◌, refl, subst}
+use mathlib.Core.Path.{◌≡◌, refl, subst, ◌∙◌}
 use mathlib.Core.Bool.{Bool, true, false, cond}
 use mathlib.Core.List.{List, [], ◌∷◌, ◌++◌}
 use lib.Dec.{ltb}
-use lib.ListN.{length, length-append}
+use lib.ListN.{length, take, length-append}
 use borrow.Author.Tests.{lt-ltb, le-ltb, ltb-true, ltb-false}
 use Rattle.io.specs.Digits.{hex_digit_ascii, last_digits, IsDigitCount}
 use Rattle.format.specs.Text.{digit_byte, digits_in, decimal, read_on, read_back}
@@ -17,7 +17,7 @@ use Rattle.format.specs.Text.{digit_byte, digits_in, decimal, read_on, read_back
 last_glyph : (n : ℕ) → hex_digit_ascii (n % 10) ≡ digit_byte (n % 10)
 last_glyph n = let small : n % 10 < 10 = omega arith in rw (lt-ltb (n % 10) 10 small)
 
-pub spelled : (k most n : ℕ) → IsDigitCount 10 1 n k → k ≤ most → last_digits 10 k n ≡ digits_in most n
+spelled : (k most n : ℕ) → IsDigitCount 10 1 n k → k ≤ most → last_digits 10 k n ≡ digits_in most n
 unfolding digits_in
 spelled zero most n few h = absurd (omega (arith, few.0))
 spelled (suc k) zero n few h = absurd (omega arith)
@@ -45,9 +45,13 @@ not_more k n few h over =
     let more : 10 ^ (k - 1) ≤ n = few.2 (omega arith) in
     omega arith
 
-pub spelled_whole : (k n : ℕ) → IsDigitCount 10 1 n k → n < 2 ^ 64 → last_digits 10 k n ≡ decimal n
+spelled_whole : (k n : ℕ) → IsDigitCount 10 1 n k → n < 2 ^ 64 → last_digits 10 k n ≡ decimal n
 unfolding decimal
 spelled_whole k n few h = spelled k 20 n few (le_of_suc-le-suc (lt_of_not-le (not_more k n few h)))
+
+-- what `io::decimal` puts into an array
+pub decimal_made : (k n : ℕ) (digits : List ℕ) → IsDigitCount 10 1 n k → take k digits ≡ last_digits 10 k n → n < 2 ^ 64 → take k digits ≡ decimal n
+decimal_made k n digits few told h = told ∙ spelled_whole k n few h
 
 -- ---- reading back
 

@@ -1,17 +1,10 @@
 -- Reading an input to its end, a piece at a time: what one read means for the whole. What the reads answer is the
 -- reader's. Definitions only.
-use Rattle.std.specs.Prelude.{ℕ, zero, suc, ◌+◌, ◌≤◌, Bool, true, false, ltb, None, Some, IfSome}
+use Rattle.std.specs.Prelude.{ℕ, zero, suc, ◌+◌, Bool, true, false, ltb, None, Some}
 use Rattle.std.specs.declared.option.Option.{Option}
 use Rattle.format.specs.declared.reads.Read.{Read}
 use Rattle.format.specs.declared.reads.Reading.{Reading}
 use Rattle.format.specs.declared.reads.Reading.TheVariants.{Failed, Ended, Full, More}
-
--- A read as it is made: it asks for something, behind the bytes that are there and within the room; its answer is none
--- where it failed, or how many bytes came, at most as many as were asked for.
-pub record Made (room : ℕ) (read : Read) : Type 0 where
-  pub something : 1 ≤ read.asked
-  pub within : read.there + read.asked ≤ room
-  pub moved : IfSome read.answer (λ n. n ≤ read.asked)
 
 -- bytes came, and n are there now: more may come as long as there is room
 abbrev pub room_for : Bool → ℕ → Reading
@@ -28,9 +21,9 @@ abbrev pub answer_of : ℕ → ℕ → Option ℕ → Reading
 answer_of room there None = Failed
 answer_of room there (Some k) = came_of room there k
 
--- what a read means for an input that goes into `room` bytes
-unfoldable pub reading_of : ℕ → Read → Reading
-reading_of room read = answer_of room read.there read.answer
+-- what a read means for the input
+unfoldable pub reading_of : Read → Reading
+reading_of read = answer_of read.room read.there read.answer
 
 -- the reading goes on only where bytes came and there is room for more
 abbrev pub goes_on : Reading → Bool
@@ -47,5 +40,5 @@ end_of room there Ended = there
 end_of room there Full = room
 end_of room there (More n) = room
 
-unfoldable pub count_of : ℕ → Read → ℕ
-count_of room read = end_of room read.there (reading_of room read)
+unfoldable pub count_of : Read → ℕ
+count_of read = end_of read.room read.there (reading_of read)

@@ -1,5 +1,5 @@
 -- What the contracts of `format` cite.
-pub mod Ascii
 pub mod Bytes
+pub mod Growing
 pub mod Input
 pub mod Text

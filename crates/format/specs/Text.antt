@@ -1,7 +1,6 @@
 -- Numbers in base ten and lines of a report as bytes in ASCII (01, part 8), and text that is put into a lent buffer.
--- Definitions only.
-use Rattle.std.specs.Prelude.{ℕ, zero, suc, ◌+◌, ◌-◌, ◌*◌, ◌/◌, ◌%◌, ◌≡◌, cond, List, [], ◌∷◌, ◌++◌, ltb, length, take, drop}
-use Rattle.format.specs.Ascii.{ascii}
+-- `codes` gives a text as bytes: the code of each of its characters. Definitions only.
+use Rattle.std.specs.Prelude.{ℕ, zero, suc, ◌+◌, ◌-◌, ◌*◌, ◌/◌, ◌%◌, ◌≡◌, cond, List, [], ◌∷◌, ◌++◌, ltb, length, take, drop, codes}
 
 -- ---- base ten
 
@@ -33,11 +32,11 @@ read_back = read_on 0
 -- numbers, each after a blank
 unfoldable pub spaced : List ℕ → List ℕ
 spaced [] = []
-spaced (n ∷ ns) = ascii " " ++ (decimal n ++ spaced ns)
+spaced (n ∷ ns) = codes " " ++ (decimal n ++ spaced ns)
 
 -- "(size 300 8 37)", with its line end: a bracket and a word, numbers, a bracket
 unfoldable pub line : List ℕ → List ℕ → List ℕ
-line word numbers = word ++ (spaced numbers ++ ascii ")\n")
+line word numbers = word ++ (spaced numbers ++ codes ")\n")
 
 -- ---- a lent buffer
 

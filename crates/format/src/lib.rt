@@ -9,4 +9,4 @@ pub mod text;
 pub use bytes::{bytes_ok, samples};
 pub use input::{INPUT, read_full, read_recording};
 pub use reads::Came;
-pub use text::{append, line};
+pub use text::Text;

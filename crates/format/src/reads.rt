@@ -1,16 +1,96 @@
 // One read of an input, and what it means for the whole.
-ghost use Rattle.std.specs.Prelude.{◌≡◌, ◌+◌, ◌≤◌, length};
-ghost use Rattle.format.specs.Input.{Made, reading_of, count_of};
+ghost use Rattle.std.specs.Prelude.{◌+◌, ◌≤◌, IfSome};
+ghost use Rattle.std.proofs.Props.{props};
 
 use std::io;
 
-// One read: how many bytes were there before it, how many it asked for, and how many it answered to have brought, none
-// where it failed. Its fields are open to this file alone, so that every `Read` is one that `read_on` made.
+// One read of an input that goes into `room` bytes: how many bytes were there before it, how many it asked for, and how
+// many it answered to have brought, none where it failed. It asks for something, within the room, and brings no more
+// than it asked for. Its fields are open to this file alone, so that every `Read` is one that `Read::next` made.
 #[derive(Clone, Copy)]
 pub struct Read {
+    room: usize,
     there: usize,
     asked: usize,
     answer: Option<usize>,
+    ghost something: { 1 ≤ asked },
+    ghost within: { there + asked ≤ room },
+    ghost moved: { IfSome answer (λ n. n ≤ asked) } by { Prim.hlevel props },
+}
+
+// What a read means for the whole input.
+#[derive(Clone, Copy)]
+pub enum Reading {
+    Failed,
+    Ended,
+    Full,
+    // So many bytes are there now, and more may come.
+    More(usize),
+}
+
+impl Read {
+    ghost use Rattle.std.specs.Prelude.{◌≡◌, ◌-◌, ◌<◌, min, max, length};
+    ghost use Rattle.format.specs.Input.{reading_of, count_of};
+
+    // Reads the next bytes behind those that are there: a piece, of one byte at least, as far as there is room.
+    pub fn next<R: io::Read>(reader: &mut R, bytes: &mut [u8], there: usize, piece: usize) -> Read
+        requires { there < length bytes.old }
+        ensures there_value { (result.room ≡ length bytes.new) × (result.there ≡ there)
+            × (result.asked ≡ min (max 1 piece) (length bytes.new - there)) }
+        ensures bytes_len_unchanged { length bytes.new ≡ length bytes.old }
+    {
+        let room = bytes.len();
+        let asked = piece.max(1).min(room - there);
+        let answer = reader.read(&mut bytes[there..there + asked]).ok();
+        Read {
+            room,
+            there,
+            asked,
+            answer,
+        }
+    }
+
+    #[tactic(auto, unfolding(crate::specs::Input::reading_of))]
+    pub fn meaning(self) -> Reading
+        ensures { result ≡ reading_of self }
+    {
+        match self.answer {
+            None => Reading::Failed,
+            Some(0) => Reading::Ended,
+            Some(n) if self.there + n < self.room => Reading::More(self.there + n),
+            Some(_) => Reading::Full,
+        }
+    }
+
+    // How many bytes are there after it.
+    pub fn came(self) -> usize
+        ensures { result ≤ self.room }
+    {
+        self.there + self.answer.unwrap_or(0)
+    }
+
+    // How many bytes an input has that it ended.
+    #[tactic(auto, unfolding(crate::specs::Input::count_of))]
+    fn count(self) -> usize
+        ensures value { result ≡ count_of self }
+        ensures within { result ≤ self.room }
+    {
+        match self.meaning() {
+            Reading::Ended => self.there,
+            _ => self.room,
+        }
+    }
+
+    pub fn what_came(self) -> Came
+        ensures value { (result.count ≡ count_of self) × (result.there ≡ self.there) × (result.asked ≡ self.asked) }
+        ensures within { result.count ≤ self.room }
+    {
+        Came {
+            count: self.count(),
+            there: self.there,
+            asked: self.asked,
+        }
+    }
 }
 
 // What came of an input: how many bytes it counts as having, and of the read that ended it how many bytes were there
@@ -24,6 +104,8 @@ pub struct Came {
 }
 
 impl Came {
+    ghost use Rattle.std.specs.Prelude.{◌≡◌};
+
     pub fn count(self) -> usize
         ensures { result ≡ self.count }
     {
@@ -34,75 +116,5 @@ impl Came {
         ensures { result ≡ self.asked }
     {
         self.asked
-    }
-}
-
-// What a read means for the whole input.
-#[derive(Clone, Copy)]
-pub enum Reading {
-    Failed,
-    Ended,
-    Full,
-    // So many bytes are there now, and more may come.
-    More(usize),
-}
-
-pub fn meaning(read: Read, room: usize) -> Reading
-    requires { Made room read }
-    ensures { result ≡ reading_of room read }
-{
-    let Some(came) = read.answer else {
-        return Reading::Failed;
-    };
-    if came == 0 {
-        return Reading::Ended;
-    }
-    let n = read.there + came;
-    if n < room {
-        Reading::More(n)
-    } else {
-        Reading::Full
-    }
-}
-
-// Reads the next bytes behind those that are there.
-pub fn read_on<R: io::Read>(reader: &mut R, bytes: &mut [u8], there: usize, asked: usize) -> Read
-    requires { (1 ≤ asked) × (there + asked ≤ length bytes.old) }
-    ensures there_value { (result.there ≡ there) × (result.asked ≡ asked) × (Made (length bytes.new) result) }
-    ensures bytes_len_unchanged { length bytes.new ≡ length bytes.old }
-{
-    let end = there + asked;
-    let answer = match reader.read(&mut bytes[there..end]) {
-        Ok(n) => Some(n),
-        Err(_) => None,
-    };
-    Read {
-        there: there,
-        asked: asked,
-        answer: answer,
-    }
-}
-
-// How many bytes an input has, by the read that ended it.
-fn count(last: Read, room: usize) -> usize
-    requires { Made room last }
-    ensures { result ≡ count_of room last }
-{
-    match meaning(last, room) {
-        Reading::Failed => room,
-        Reading::Ended => last.there,
-        Reading::Full => room,
-        Reading::More(_) => room,
-    }
-}
-
-pub fn what_came(last: Read, room: usize) -> Came
-    requires { Made room last }
-    ensures { (result.count ≡ count_of room last) × (result.there ≡ last.there) × (result.asked ≡ last.asked) }
-{
-    Came {
-        count: count(last, room),
-        there: last.there,
-        asked: last.asked,
     }
 }

@@ -1,57 +1,74 @@
-// Text in a lent buffer: each function puts its text at a position and answers the position behind it. A caller shows
-// that there is room for just that text.
-ghost use Rattle.std.specs.Prelude.{◌+◌, ◌≤◌, length, [], ◌∷◌};
-ghost use Rattle.format.specs.Text.{decimal, spaced, Appended};
-ghost use Rattle.format.specs.Text.{line as Text·line};
+// Text in a lent buffer, grown from the buffer's start. A caller shows that there is room for what it puts there.
+// `write!` promises its bytes only where it answers Ok, and a report may not fail: so numbers are put in here.
+ghost use Rattle.std.specs.Prelude.{◌≤◌, length};
 
-pub fn append(out: &mut [u8], at: usize, text: &[u8]) -> usize
-    requires { at + length text.now ≤ length out.old }
-    ensures { Appended out.old at text.now out.new result }
-{
-    let n = text.len();
-    for i in 0..n {
-        out[at + i] = text[i];
+// A lent buffer, and how many bytes at its start are filled.
+#[derive(Drop)]
+pub struct Text<'a> {
+    out: &'a mut [u8],
+    filled: usize,
+    ghost within: { filled ≤ length out.now },
+}
+
+impl<'a> Text<'a> {
+    ghost use Rattle.std.specs.Prelude.{◌≡◌};
+    ghost use Rattle.format.specs.Text.{decimal, spaced};
+    ghost use Rattle.format.specs.Text.{line as Text·line};
+    ghost use Rattle.format.specs.Growing.{Begun, HasRoom, Grown};
+
+    // Nothing is filled yet.
+    pub fn new(out: &'a mut [u8]) -> Text<'a>
+        ensures { Begun out.entry result }
+    {
+        Text { out, filled: 0 }
     }
-    at + n
-}
 
-// A number in base ten.
-fn number(out: &mut [u8], at: usize, n: usize) -> usize
-    requires { at + length (decimal n) ≤ length out.old }
-    ensures { Appended out.old at (decimal n) out.new result }
-{
-    let mut digits = [0u8; 20];
-    let k = io::decimal(n as u64, &mut digits);
-    append(out, at, &digits[..k])
-}
-
-// A blank and a number.
-fn spaced_number(out: &mut [u8], at: usize, n: usize) -> usize
-    requires { at + length (spaced (n ∷ [])) ≤ length out.old }
-    ensures { Appended out.old at (spaced (n ∷ [])) out.new result }
-{
-    let behind = append(out, at, b" ");
-    number(out, behind, n)
-}
-
-fn spaced_numbers(out: &mut [u8], at: usize, numbers: &[usize]) -> usize
-    requires { at + length (spaced numbers.now) ≤ length out.old }
-    ensures { Appended out.old at (spaced numbers.now) out.new result }
-{
-    let count = numbers.len();
-    let mut behind = at;
-    for i in 0..count {
-        behind = spaced_number(out, behind, numbers[i]);
+    pub fn filled(&self) -> usize
+        ensures { result ≡ self.now.filled }
+    {
+        self.filled
     }
-    behind
-}
 
-// A line of a report: a bracket and a word, numbers, a bracket and the line's end.
-pub fn line(out: &mut [u8], at: usize, word: &[u8], numbers: &[usize]) -> usize
-    requires { at + length (Text·line word.now numbers.now) ≤ length out.old }
-    ensures { Appended out.old at (Text·line word.now numbers.now) out.new result }
-{
-    let behind_word = append(out, at, word);
-    let behind_numbers = spaced_numbers(out, behind_word, numbers);
-    append(out, behind_numbers, b")\n")
+    pub fn append(&mut self, text: &[u8])
+        requires { HasRoom self.old text.now }
+        ensures { Grown self.old text.now self.new }
+    {
+        let end = self.filled + text.len();
+        self.out[self.filled..end].copy_from_slice(text);
+        self.filled = end;
+    }
+
+    // A number in base ten.
+    #[tactic(auto, using(crate::proofs::Decimals::decimal_made))]
+    fn number(&mut self, n: usize)
+        requires { HasRoom self.old (decimal n) }
+        ensures { Grown self.old (decimal n) self.new }
+    {
+        let mut digits = [0u8; 20];
+        let k = io::decimal(n as u64, &mut digits);
+        self.append(&digits[..k]);
+    }
+
+    // Numbers, each after a blank.
+    #[tactic(auto, using(crate::proofs::Lines::spaced_room))]
+    fn spaced(&mut self, numbers: &[usize])
+        requires { HasRoom self.old (spaced numbers.now) }
+        ensures { Grown self.old (spaced numbers.now) self.new }
+    {
+        for n in numbers {
+            self.append(b" ");
+            self.number(*n);
+        }
+    }
+
+    // A line of a report: a bracket and a word, numbers, a bracket and the line's end.
+    #[tactic(auto, using(crate::proofs::Lines::line_length))]
+    pub fn line(&mut self, word: &[u8], numbers: &[usize])
+        requires { HasRoom self.old (Text·line word.now numbers.now) }
+        ensures { Grown self.old (Text·line word.now numbers.now) self.new }
+    {
+        self.append(word);
+        self.spaced(numbers);
+        self.append(b")\n");
+    }
 }

@@ -4,8 +4,7 @@ use native.Mathlib.Omega.{arith}
 use mathlib.Core.Path.{◌≡◌, refl, sym, ◌∙◌}
 use mathlib.Core.Bool.{Bool, true, false, false≢true}
 use mathlib.Core.List.{List, [], ◌∷◌, ◌++◌}
-use lib.Ieee.{Float, lt}
-use borrow.Author.Tests.{lt-ltb, le-ltb}
+use lib.Ieee.{Float}
 use Rattle.float.specs.Ops.{◌⊗◌, bits}
 use Rattle.float.specs.Ops as float
 use Rattle.constants.proofs.Bits.{hot_factor_bits}
@@ -16,32 +15,23 @@ use Rattle.lists.proofs.Count.{count_most}
 use Rattle.lists.proofs.Every.{and_left}
 use Rattle.lists.proofs.Sums.{over_more}
 use Rattle.complex.specs.declared.value.Complex.{Complex}
-use Rattle.complex.specs.Value.{c_zero, c_add, c_norm, c_norm_sqr}
+use Rattle.complex.specs.Value.{c_zero, c_add, c_norm}
 use Rattle.gaps.specs.declared.pairs.Gaps.{Gaps}
 use Rattle.gaps.specs.declared.pairs.Pairs.{Pairs}
 use Rattle.gaps.specs.Inner.{pair_plus}
-use Rattle.gaps.specs.Pairs.{above, gaps_of, preceded, followed, pair_at, lagged, products, c_over, pairs_of, in_pair}
+use Rattle.gaps.specs.Pairs.{above, gaps_of, preceded, pair_at, lagged, products, c_over, pairs_of}
 use Rattle.gaps.proofs.Counted.{count_yes, count_no, count_done, picked_yes, picked_no}
 
--- ---- the ways out of the tests
-
-module _ (gap : ℕ → Bool) (z : ℕ → Complex) (level : Float) (b : ℕ) where
-  pub above_yes : (t : Bool) (w : Complex) (p : Float) → t ≡ gap b → t ≡ true → w ≡ z b → p ≡ c_norm_sqr w → lt level p ≡ above gap z level b
-  unfolding above
-  above_yes t w p e h g q = rw (← e, h, q, g)
-
-  pub above_no : (t : Bool) → t ≡ gap b → t ≡ false → false ≡ above gap z level b
-  unfolding above
-  above_no t e h = rw (← e, h)
+-- ---- the tests
 
 module _ (s : ℕ → Bool) where
-  pub preceded_none : (b : ℕ) → b ≡ 0 → false ≡ preceded s b
+  pub preceded_none : (b : ℕ) → b ≤ 0 → false ≡ preceded s b
   unfolding preceded
-  preceded_none b e = rw e
+  preceded_none b h = let none : b ≡ 0 = omega arith in rw none
 
-  pub preceded_some : (b : ℕ) (t : Bool) → (b ≡ 0 → ⊥) → t ≡ s (b - 1) → t ≡ preceded s b
+  pub preceded_some : (b : ℕ) (t : Bool) → 0 < b → t ≡ s (b - 1) → t ≡ preceded s b
   unfolding preceded
-  preceded_some zero t h e = absurd (h refl)
+  preceded_some zero t h e = absurd (omega arith)
   preceded_some (suc a) t h e = let here : suc a - 1 ≡ a = omega arith in rw here at e
 
   -- a block before b is there
@@ -49,35 +39,6 @@ module _ (s : ℕ → Bool) where
   unfolding preceded
   preceded_there zero e = absurd (false≢true e)
   preceded_there (suc a) e = omega arith
-
-  module _ (blocks b : ℕ) where
-    pub followed_some : (t : Bool) → b + 1 < blocks → t ≡ s (b + 1) → t ≡ followed s blocks b
-    unfolding followed
-    followed_some t h e = rw (lt-ltb (b + 1) blocks h) e
-
-    pub followed_none : blocks ≤ b + 1 → false ≡ followed s blocks b
-    unfolding followed
-    followed_none h = rw (le-ltb (b + 1) blocks h)
-
-    pub in_no : (t : Bool) → t ≡ s b → t ≡ false → false ≡ in_pair s blocks b
-    unfolding in_pair
-    in_no t e h = rw (← e, h)
-
-    pub in_first : (t u : Bool) → t ≡ s b → t ≡ true → u ≡ preceded s b → u ≡ true → true ≡ in_pair s blocks b
-    unfolding in_pair
-    in_first t u e h f g = rw (← e, h, ← f, g)
-
-    pub in_second : (t u v : Bool) → t ≡ s b → t ≡ true → u ≡ preceded s b → u ≡ false → v ≡ followed s blocks b → v ≡ in_pair s blocks b
-    unfolding in_pair
-    in_second t u v e h f g i = rw (← e, h, ← f, g, ← i)
-
-  pub pair_yes : (b : ℕ) (t u : Bool) → t ≡ preceded s b → t ≡ true → u ≡ s b → u ≡ pair_at s b
-  unfolding pair_at
-  pair_yes b t u e h f = rw (← e, h, ← f)
-
-  pub pair_no : (b : ℕ) (t : Bool) → t ≡ preceded s b → t ≡ false → false ≡ pair_at s b
-  unfolding pair_at
-  pair_no b t e h = rw (← e, h)
 
   -- a pair ends at no block 0
   pub pair_later : (b : ℕ) → pair_at s b ≡ true → 1 ≤ b
@@ -87,10 +48,10 @@ module _ (s : ℕ → Bool) where
 -- ---- after the loop that counts the gap blocks and the hot ones among them
 
 pub gaps_done : (gap : ℕ → Bool) (z : ℕ → Complex) (ref : Float) (n k m h : ℕ)
-    → m ≡ count_to gap k → h ≡ count_to (above gap z (bits 0x4010_0000_0000_0000 ⊗ ref)) k → k ≤ n → n ≤ k
+    → m ≡ count_to gap n → h ≡ count_to (above gap z (bits 0x4010_0000_0000_0000 ⊗ ref)) k → k ≤ n → n ≤ k
     → ◌≡◌ {A = Gaps} (record { blocks = m; hot = h }) (gaps_of gap z ref n)
 unfolding gaps_of
-gaps_done gap z ref n k m h p q l g = rw (hot_factor_bits, count_done gap n k m p l g, count_done _ n k h q l g)
+gaps_done gap z ref n k m h p q l g = rw (hot_factor_bits, p, count_done _ n k h q l g)
 
 -- ---- one more product
 

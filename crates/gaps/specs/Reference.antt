@@ -1,7 +1,8 @@
 -- The reference of the evidence (01, part 6: `second_carrier_evidence`): the median power of the gap blocks at the
 -- carrier ± REFERENCE_OFFSET_HZ, pooled, and at least 1e-12 × the median power of the interior blocks at the carrier.
 -- `mean c` is the row of block means at the carrier c. Definitions only.
-use Rattle.std.specs.Prelude.{ℕ, ◌^◌, Bool, List, ◌++◌, Float}
+use Rattle.std.specs.Prelude.{ℕ, ◌^◌, Bool, List, ◌++◌, Float, Some, None}
+use Rattle.std.specs.declared.option.Option.{Option}
 use Rattle.std.specs.Float.Ieee.{neg}
 use Rattle.float.specs.Ops.{◌⊕◌, ◌⊗◌, ◌⊘◌, fraction, plus_zero, half}
 use Rattle.float.specs.Compare.{max_of}
@@ -10,8 +11,6 @@ use Rattle.constants.specs.Constants.{REFERENCE_OFFSET_HZ, MIN_POSITIVE}
 use Rattle.complex.specs.declared.value.Complex.{Complex}
 use Rattle.row.specs.Window.{window_of}
 use Rattle.row.specs.Blocks.{block_mean}
-use Rattle.rank.specs.declared.Percentile.{Percentile}
-use Rattle.rank.specs.declared.Percentile.TheVariants.{Value, Nothing}
 use Rattle.rank.specs.Select.{percentile_of}
 use Rattle.prepared.specs.Powers.{block_power}
 
@@ -20,9 +19,9 @@ abbrev pub mean_at : List Float → Float → Float → ℕ → Complex
 mean_at iq fs carrier = block_mean iq (carrier ⊘ fs) (window_of fs)
 
 -- `unwrap_or(0.0)`
-abbrev pub or_zero : Percentile → Float
-or_zero (Value v) = v
-or_zero Nothing = plus_zero
+abbrev pub or_zero : Option Float → Float
+or_zero (Some v) = v
+or_zero None = plus_zero
 
 -- the median of a list, 0 of an empty one
 abbrev pub median_of : List Float → Float

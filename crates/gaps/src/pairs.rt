@@ -1,18 +1,16 @@
 // Hot gap blocks, and pairs of consecutive gap blocks, against a reference. Rust: lines 525 to 527 and 548 to 569 of
-// cancel.rs in second_carrier_evidence. The work slice holds the blocks' means and the numbers of their classes, each
-// in its section.
-ghost use Rattle.std.specs.Prelude.{◌≡◌, ◌+◌, ◌*◌, ◌≤◌, ◌<◌, length};
+// cancel.rs in second_carrier_evidence.
+ghost use Rattle.std.specs.Prelude.{◌≡◌, ◌+◌, ◌*◌, ◌≤◌, ◌<◌, ◌^◌, length};
 ghost use Rattle.complex.specs.Rows.{z_at};
 ghost use Rattle.classes.specs.declared.class.BlockClass.TheVariants.{Gap};
-ghost use Rattle.prepared.specs.Sections.{CLASSES, SIDES};
-ghost use Rattle.prepared.specs.Inner.{class_in};
+ghost use Rattle.prepared.specs.Inner.{of_class};
 ghost use Rattle.gaps.specs.Inner.{pair_plus};
 ghost use Rattle.gaps.specs.Pairs.{above, preceded, followed, pair_at, in_pair, lagged, gaps_of, strong, pairs_of};
 
-use classes::{BlockClass, is_class};
+use classes::{BlockClass, count_class, is_class};
 use complex::{Complex, get};
 use constants::{HOT_FACTOR, PAIR_FACTOR};
-use prepared::sections::CLASSES;
+use prepared::classed::Classed;
 
 // How many gap blocks there are, and how many of them are hot.
 #[derive(Clone, Copy)]
@@ -38,7 +36,7 @@ impl Pairs {
 
     // One more pair, with the product p.
     fn with(self, p: Complex) -> Pairs
-        requires { self.count < 1048576 }
+        requires { self.count + 1 < 2 ^ 64 }
         ensures { result ≡ pair_plus self p }
     {
         Pairs {
@@ -50,109 +48,81 @@ impl Pairs {
 }
 
 // Whether block b is a gap block whose power is above a level.
-fn above(work: &[f64], blocks: usize, level: f64, b: usize) -> bool
-    requires b_lt_blocks { b < blocks }
-    requires blocks_in_bounds { SIDES * blocks ≤ length work.now }
-    ensures { result ≡ above (class_in work.now (CLASSES * blocks) Gap) (z_at work.now) level b }
+fn above(held: &Classed, level: f64, b: usize) -> bool
+    requires { b < held.now.grid.blocks }
+    ensures { result ≡ above (of_class held.now.codes.now Gap) (z_at held.now.means.now) level b }
 {
-    if is_class(work, CLASSES * blocks + b, BlockClass::Gap) {
-        get(work, b).norm_sqr() > level
-    } else {
-        false
-    }
+    is_class(held.codes, b, BlockClass::Gap) && get(held.means, b).norm_sqr() > level
 }
 
-// The same of the block before block b ..
-fn preceded(work: &[f64], blocks: usize, level: f64, b: usize) -> bool
-    requires b_lt_blocks { b < blocks }
-    requires blocks_in_bounds { SIDES * blocks ≤ length work.now }
-    ensures { result ≡ preceded (above (class_in work.now (CLASSES * blocks) Gap) (z_at work.now) level) b }
+// The same of the block before block b, where there is one ..
+fn preceded(held: &Classed, level: f64, b: usize) -> bool
+    requires { b < held.now.grid.blocks }
+    ensures { result ≡ preceded (above (of_class held.now.codes.now Gap) (z_at held.now.means.now) level) b }
 {
-    if b == 0 {
-        return false;
-    }
-    above(work, blocks, level, b - 1)
+    b > 0 && above(held, level, b - 1)
 }
 
 // .. and of the one after it.
-fn followed(work: &[f64], blocks: usize, level: f64, b: usize) -> bool
-    requires b_lt_blocks { b < blocks }
-    requires blocks_in_bounds { SIDES * blocks ≤ length work.now }
-    ensures { result ≡ followed (above (class_in work.now (CLASSES * blocks) Gap) (z_at work.now) level) blocks b }
+fn followed(held: &Classed, level: f64, b: usize) -> bool
+    requires { b < held.now.grid.blocks }
+    ensures { result ≡ followed (above (of_class held.now.codes.now Gap) (z_at held.now.means.now) level) held.now.grid.blocks b }
 {
-    if b + 1 < blocks {
-        return above(work, blocks, level, b + 1);
-    }
-    false
+    b + 1 < held.grid.blocks && above(held, level, b + 1)
 }
 
 // Whether a pair ends at block b. Rust: the test of the loop over `gap_idx.windows(2)`.
-fn pair_at(work: &[f64], blocks: usize, level: f64, b: usize) -> bool
-    requires b_lt_blocks { b < blocks }
-    requires blocks_in_bounds { SIDES * blocks ≤ length work.now }
-    ensures { result ≡ pair_at (above (class_in work.now (CLASSES * blocks) Gap) (z_at work.now) level) b }
+fn pair_at(held: &Classed, level: f64, b: usize) -> bool
+    requires { b < held.now.grid.blocks }
+    ensures { result ≡ pair_at (above (of_class held.now.codes.now Gap) (z_at held.now.means.now) level) b }
 {
-    if preceded(work, blocks, level, b) {
-        return above(work, blocks, level, b);
-    }
-    false
+    preceded(held, level, b) && above(held, level, b)
 }
 
 // Whether block b is in a pair. Rust: what goes into `pair_blocks`.
-pub fn in_pair(work: &[f64], blocks: usize, level: f64, b: usize) -> bool
-    requires b_lt_blocks { b < blocks }
-    requires blocks_in_bounds { SIDES * blocks ≤ length work.now }
-    ensures { result ≡ in_pair (above (class_in work.now (CLASSES * blocks) Gap) (z_at work.now) level) blocks b }
+pub fn in_pair(held: &Classed, level: f64, b: usize) -> bool
+    requires { b < held.now.grid.blocks }
+    ensures { result ≡ in_pair (above (of_class held.now.codes.now Gap) (z_at held.now.means.now) level) held.now.grid.blocks b }
 {
-    if above(work, blocks, level, b) {
-        if preceded(work, blocks, level, b) {
-            return true;
-        }
-        return followed(work, blocks, level, b);
-    }
-    false
+    above(held, level, b) && (preceded(held, level, b) || followed(held, level, b))
 }
 
 // The product of the pair that ends at block b.
-fn lagged(work: &[f64], b: usize) -> Complex
-    requires le_b { 1 ≤ b }
-    requires b_in_bounds { 2 * b + 1 < length work.now }
-    ensures { result ≡ lagged (z_at work.now) b }
+fn lagged(held: &Classed, b: usize) -> Complex
+    requires first { 1 ≤ b }
+    requires last { b < held.now.grid.blocks }
+    ensures { result ≡ lagged (z_at held.now.means.now) b }
 {
-    get(work, b).mul(get(work, b - 1).conj())
+    get(held.means, b).mul(get(held.means, b - 1).conj())
 }
 
 // Rust: `gap_idx.len()` and `hot`.
-pub fn count_gaps(work: &[f64], blocks: usize, reference: f64) -> Gaps
-    requires { SIDES * blocks ≤ length work.now }
-    ensures { result ≡ gaps_of (class_in work.now (CLASSES * blocks) Gap) (z_at work.now) reference blocks }
+pub fn count_gaps(held: &Classed, reference: f64) -> Gaps
+    ensures { result ≡ gaps_of (of_class held.now.codes.now Gap) (z_at held.now.means.now) reference held.now.grid.blocks }
 {
     let level = HOT_FACTOR * reference;
-    let mut gap: usize = 0;
+    // As `filter(..).count()` over the blocks it was tried, and the count's proof did not close.
     let mut hot: usize = 0;
-    for b in 0..blocks {
-        if is_class(work, CLASSES * blocks + b, BlockClass::Gap) {
-            gap = gap + 1;
-        }
-        if above(work, blocks, level, b) {
-            hot = hot + 1;
+    for b in 0..held.grid.blocks {
+        if above(held, level, b) {
+            hot += 1;
         }
     }
-    Gaps { blocks: gap, hot }
+    Gaps {
+        blocks: count_class(held.codes, BlockClass::Gap),
+        hot,
+    }
 }
 
 // Rust: the loop over `gap_idx.windows(2)`.
-pub fn sum_pairs(work: &[f64], blocks: usize, reference: f64) -> Pairs
-    requires blocks_bound { blocks ≤ 1048576 }
-    requires blocks_in_bounds { SIDES * blocks ≤ length work.now }
-    ensures { result ≡ pairs_of (strong (class_in work.now (CLASSES * blocks) Gap) (z_at work.now) reference) (z_at work.now) blocks }
+pub fn sum_pairs(held: &Classed, reference: f64) -> Pairs
+    ensures { result ≡ pairs_of (strong (of_class held.now.codes.now Gap) (z_at held.now.means.now) reference) (z_at held.now.means.now) held.now.grid.blocks }
 {
     let level = PAIR_FACTOR * reference;
     let mut found = Pairs::NO_PAIRS;
-    for b in 0..blocks {
-        if pair_at(work, blocks, level, b) {
-            let p = lagged(work, b);
-            found = found.with(p);
+    for b in 0..held.grid.blocks {
+        if pair_at(held, level, b) {
+            found = found.with(lagged(held, b));
         }
     }
     found

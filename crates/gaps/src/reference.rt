@@ -1,115 +1,68 @@
 // The reference level of the evidence: what the gaps hold away from the carrier. Rust: lines 532 to 547 of cancel.rs in
 // second_carrier_evidence; `interior` of line 543 is made by prepared::powers.
-ghost use Rattle.std.specs.Prelude.{◌≡◌, ◌+◌, ◌*◌, ◌≤◌, length, take};
+ghost use Rattle.std.specs.Prelude.{◌≡◌, ◌*◌, ◌≤◌, length};
 ghost use Rattle.lists.specs.Count.{count_to};
 ghost use Rattle.lists.specs.Those.{keep};
-ghost use Rattle.trig.specs.Circle.{quarter_sines};
-ghost use Rattle.row.specs.Samples.{Iq};
-ghost use Rattle.row.specs.Window.{window_of, blocks};
 ghost use Rattle.row.specs.Blocks.{block_mean};
 ghost use Rattle.classes.specs.declared.class.BlockClass.TheVariants.{Gap, Interior};
 ghost use Rattle.complex.specs.Rows.{z_at};
-ghost use Rattle.prepared.specs.Sections.{CLASSES, SIDES, EVIDENCE_END};
-ghost use Rattle.prepared.specs.Inner.{class_in};
+ghost use Rattle.prepared.specs.Inner.{of_class};
 ghost use Rattle.prepared.specs.Powers.{block_power};
-ghost use Rattle.gaps.specs.Reference.{or_zero, median_of, side_of, reference_by, mean_at};
+ghost use Rattle.gaps.specs.Reference.{median_of, side_of, reference_by, mean_at};
 
-use classes::{BlockClass, is_class};
+use classes::BlockClass;
 use constants::{MIN_POSITIVE, REFERENCE_OFFSET_HZ};
+use prepared::classed::Classed;
 use prepared::powers::level_of;
-use prepared::prepare::Grid;
-use prepared::sections::{CLASSES, SIDES};
-use rank::Percentile;
 use rank::select::percentile;
 use row::mean_from;
+use trig::Sines;
 
-// Rust: `unwrap_or(0.0)` of a percentile.
-fn or_zero(p: Percentile) -> f64
-    ensures { result ≡ or_zero p }
+// The powers of the gap blocks at cyc cycles a sample, one after the other; the answer is how many they are. Rust: the
+// loop over gap_idx that fills `side`. It is not `gather` with another power: where a block starts is added up here,
+// with no product, also over the blocks that are passed over.
+fn gap_powers(held: &Classed, cyc: f64, out: &mut [f64], sine: &Sines) -> usize
+    requires { held.now.grid.blocks ≤ length out.old }
+    ensures few { result ≤ held.now.grid.blocks }
+    ensures kept { (result ≡ count_to (of_class held.now.codes.now Gap) held.now.grid.blocks)
+        × (out.new ≡ keep out.old 0 (of_class held.now.codes.now Gap) (block_power (block_mean held.now.grid.samples.iq.now cyc held.now.grid.window)) held.now.grid.blocks) }
 {
-    let Percentile::Value(v) = p else {
-        return 0.0;
-    };
-    v
-}
-
-// The powers of the gap blocks at cyc cycles a sample go to `out` and the numbers after it; the answer is how many they
-// are. Rust: the loop over gap_idx that fills `side`. The start is raised for the blocks that are passed over too.
-fn gap_powers(
-    iq: &[f32],
-    cyc: f64,
-    grid: Grid,
-    work: &mut [f64],
-    out: usize,
-    sine: &[f64; 1025],
-) -> usize
-    requires iq { Iq iq.now }
-    requires sine_value { sine.now ≡ quarter_sines }
-    requires blocks_value { grid.blocks ≡ blocks iq.now grid.window }
-    requires blocks_bound { SIDES * grid.blocks ≤ out }
-    requires blocks_in_bounds { out + grid.blocks ≤ length work.old }
-    ensures { (result ≡ count_to (class_in work.old (CLASSES * grid.blocks) Gap) grid.blocks)
-        × (work.new ≡ keep work.old out (class_in work.old (CLASSES * grid.blocks) Gap) (block_power (block_mean iq.now cyc grid.window)) grid.blocks) }
-{
-    let blocks = grid.blocks;
-    let len = grid.window;
+    let gap = f64::from(BlockClass::Gap);
+    let len = held.grid.window;
     let mut n: usize = 0;
     let mut from: usize = 0;
-    for b in 0..blocks {
-        if is_class(work, CLASSES * blocks + b, BlockClass::Gap) {
-            work[out + n] = mean_from(iq, cyc, from, len, sine).norm_sqr();
-            n = n + 1;
+    for x in held.codes {
+        if *x == gap {
+            out[n] = mean_from(&held.grid.samples, cyc, from, len, sine).norm_sqr();
+            n += 1;
         }
-        from = from + len;
+        from += len;
     }
     n
 }
 
 // The median of the powers of the gap blocks to both sides of the carrier. Rust: `side`.
-fn side_level(iq: &[f32], grid: Grid, work: &mut [f64], sine: &[f64; 1025]) -> f64
-    requires iq { Iq iq.now }
-    requires sine_value { sine.now ≡ quarter_sines }
-    requires window_value { grid.window ≡ window_of grid.fs }
-    requires blocks_value { grid.blocks ≡ blocks iq.now grid.window }
-    requires blocks_in_bounds { EVIDENCE_END * grid.blocks ≤ length work.old }
-    ensures value { result ≡ median_of (side_of (mean_at iq.now grid.fs) grid.carrier (class_in work.old (CLASSES * grid.blocks) Gap) grid.blocks) }
-    ensures work_unchanged { take (SIDES * grid.blocks) work.new ≡ take (SIDES * grid.blocks) work.old }
+fn side_level(held: &Classed, out: &mut [f64], sine: &Sines) -> f64
+    requires { 2 * held.now.grid.blocks ≤ length out.old }
+    ensures { result ≡ median_of (side_of (mean_at held.now.grid.samples.iq.now held.now.grid.rate.hz) held.now.grid.carrier (of_class held.now.codes.now Gap) held.now.grid.blocks) }
 {
-    let blocks = grid.blocks;
-    let carrier = grid.carrier;
-    let fs = grid.fs;
-    let from = SIDES * blocks;
+    let carrier = held.grid.carrier;
+    let fs = held.grid.rate.hz;
     let under = (carrier + -REFERENCE_OFFSET_HZ) / fs;
     let over = (carrier + REFERENCE_OFFSET_HZ) / fs;
-    let n = gap_powers(iq, under, grid, work, from, sine);
-    let m = gap_powers(iq, over, grid, work, from + n, sine);
-    let to = from + n + m;
-    or_zero(percentile(&work[from..to], 0.5))
+    let n = gap_powers(held, under, out, sine);
+    let m = gap_powers(held, over, &mut out[n..], sine);
+    percentile(&out[..n + m], 0.5).unwrap_or(0.0)
 }
 
 // Rust: `reference` in second_carrier_evidence.
-pub fn find_reference(iq: &[f32], grid: Grid, work: &mut [f64], sine: &[f64; 1025]) -> f64
-    requires iq { Iq iq.now }
-    requires sine_value { sine.now ≡ quarter_sines }
-    requires window_value { grid.window ≡ window_of grid.fs }
-    requires blocks_value { grid.blocks ≡ blocks iq.now grid.window }
-    requires blocks_in_bounds { EVIDENCE_END * grid.blocks ≤ length work.old }
-    ensures value { result ≡ reference_by (mean_at iq.now grid.fs) grid.carrier (class_in work.old (CLASSES * grid.blocks) Gap)
-        (class_in work.old (CLASSES * grid.blocks) Interior) (z_at work.old) grid.blocks }
-    ensures work_unchanged { take (SIDES * grid.blocks) work.new ≡ take (SIDES * grid.blocks) work.old }
+pub fn find_reference(held: &Classed, out: &mut [f64], sine: &Sines) -> f64
+    requires { 2 * held.now.grid.blocks ≤ length out.old }
+    ensures { result ≡ reference_by (mean_at held.now.grid.samples.iq.now held.now.grid.rate.hz) held.now.grid.carrier (of_class held.now.codes.now Gap)
+        (of_class held.now.codes.now Interior) (z_at held.now.means.now) held.now.grid.blocks }
 {
-    let blocks = grid.blocks;
-    let side = side_level(iq, grid, work, sine);
-    let interior = level_of(
-        work,
-        0,
-        CLASSES * blocks,
-        blocks,
-        BlockClass::Interior,
-        SIDES * blocks,
-        0.5,
-    );
-    let level = interior.value;
-    let floor = 1e-12 * or_zero(level);
+    let side = side_level(held, out, sine);
+    let interior = level_of(held, BlockClass::Interior, 0.5, out);
+    let floor = 1e-12 * interior.value.unwrap_or(0.0);
     float::max(float::max(side, floor), MIN_POSITIVE)
 }

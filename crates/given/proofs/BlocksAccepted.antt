@@ -25,8 +25,8 @@ use Rattle.classes.specs.Classify.{counts_of, counts_in}
 use Rattle.classes.proofs.Classes.{codes_length}
 use Rattle.classes.proofs.Counts.{counts_hold}
 use Rattle.given.specs.declared.blocks.BlockClasses.{BlockClasses}
-use Rattle.given.specs.declared.blocks.ClassesAnswer.{ClassesAnswer}
-use Rattle.given.specs.declared.blocks.ClassesAnswer.TheVariants.{Refused, Done}
+use Rattle.std.specs.Prelude.{Result, Ok, Err}
+use Rattle.questions.specs.declared.refusals.Refusal.{Refusal}
 use Rattle.questions.specs.Answers.{accepted, refused}
 use Rattle.questions.specs.Questions.{first_no, ask, count_ok, places_ok, estimate_ok}
 use Rattle.given.specs.Blocks.{blocks_in, classes_questions, classes_given, block_classes_of, ClassesResult, classes_rule, classes_outcome}
@@ -109,12 +109,12 @@ module _ (iq_len : ℕ) (fs hz step : Float) (elements : List Float) (element_co
   unfolding classes_rule
   classes_number n lent e = refused_asked _ _ _ n lent e
 
-  -- What 01 accepts is never refused: with a yes to each question, 1, 2, 5 and 7, the answer is Done, with the result
+  -- What 01 accepts is never refused: with a yes to each question, 1, 2, 5 and 7, the answer is Ok, with the result
   -- of 01.
   pub classes_accepts : rate_ok fs ≡ true → count_ok iq_len ≡ true → places_ok (blocks_in iq_len fs) (length classes) ≡ true
-      → estimate_ok hz step elements element_count fits fit_count ≡ true → (a : ClassesAnswer) (classes-after : List Float)
+      → estimate_ok hz step elements element_count fits fit_count ≡ true → (a : Result BlockClasses Refusal) (classes-after : List Float)
       → classes_outcome a classes-after ≡ classes_rule iq_len fs hz step elements element_count fits fit_count classes
-      → a ≡ Done (block_classes_of iq_len fs elements element_count fits fit_count)
+      → a ≡ Ok (block_classes_of iq_len fs elements element_count fits fit_count)
   unfolding classes_rule
-  classes_accepts rate count places given (Refused n) classes-after e = absurd (never_refused _ _ _ n _ e (rate, (count, (places, (given, tt)))))
-  classes_accepts rate count places given (Done b) classes-after e = ap Done (classes_done _ e).0
+  classes_accepts rate count places given (Err r) classes-after e = absurd (never_refused _ _ _ _ _ e (rate, (count, (places, (given, tt)))))
+  classes_accepts rate count places given (Ok b) classes-after e = ap Ok (classes_done _ e).0

@@ -15,10 +15,8 @@ use Rattle.measure.specs.declared.residual.ResidualCheck.{ResidualCheck}
 use Rattle.measure.specs.declared.evidence.SecondCarrierEvidence.{SecondCarrierEvidence}
 use Rattle.measure.specs.Residual.{residual_check_of}
 use Rattle.measure.specs.Evidence.{evidence_check_of}
-use Rattle.given.specs.declared.residual.ResidualAnswer.{ResidualAnswer}
-use Rattle.given.specs.declared.residual.ResidualAnswer.TheVariants as residual
-use Rattle.given.specs.declared.evidence.EvidenceAnswer.{EvidenceAnswer}
-use Rattle.given.specs.declared.evidence.EvidenceAnswer.TheVariants as evidence
+use Rattle.std.specs.Prelude.{Result, Ok, Err}
+use Rattle.questions.specs.declared.refusals.Refusal.{Refusal}
 use Rattle.questions.specs.Answers.{refused}
 use Rattle.questions.specs.Questions.{first_no, ask, count_ok, work_ok, estimate_ok, measure_questions}
 use Rattle.given.specs.Residual.{ResidualResult, residual_rule, residual_outcome}
@@ -58,15 +56,15 @@ module _ (iq : List Float) (fs hz step : Float) (elements : List Float) (element
   unfolding residual_rule
   residual_number n lent e = refused_asked _ _ _ n lent e
 
-  -- What 01 accepts is never refused: with a yes to each question, 1, 2, 3, 6 and 7, the answer is Done, with the
+  -- What 01 accepts is never refused: with a yes to each question, 1, 2, 3, 6 and 7, the answer is Ok, with the
   -- result of 01.
   pub residual_accepts : rate_ok fs ≡ true → count_ok (length iq) ≡ true → all_finite iq ≡ true → work_ok (step_blocks iq fs) (length work) ≡ true
-      → estimate_ok hz step elements element_count fits fit_count ≡ true → (a : ResidualAnswer) (work-after : List Float)
+      → estimate_ok hz step elements element_count fits fit_count ≡ true → (a : Result ResidualCheck Refusal) (work-after : List Float)
       → residual_outcome a work-after ≡ residual_rule iq fs hz step elements element_count fits fit_count work
-      → a ≡ residual.Done (residual_check_of iq fs hz (fits_in fits fit_count) (elements_in elements element_count))
+      → a ≡ Ok (residual_check_of iq fs hz (fits_in fits fit_count) (elements_in elements element_count))
   unfolding residual_rule
-  residual_accepts rate count finite room given (residual.Refused n) work-after e = absurd (never_refused _ _ _ n _ e (rate, (count, (finite, (room, (given, tt))))))
-  residual_accepts rate count finite room given (residual.Done r) work-after e = ap (λ (r : ResidualResult). residual.Done r.check) (accepted_by _ _ _ _ e).1
+  residual_accepts rate count finite room given (Err r) work-after e = absurd (never_refused _ _ _ _ _ e (rate, (count, (finite, (room, (given, tt))))))
+  residual_accepts rate count finite room given (Ok r) work-after e = ap (λ (r : ResidualResult). Ok r.check) (accepted_by _ _ _ _ e).1
 
 -- ---- second_carrier_evidence
 
@@ -81,12 +79,12 @@ module _ (iq : List Float) (fs hz step : Float) (elements : List Float) (element
   unfolding evidence_rule
   evidence_number n lent e = refused_asked _ _ _ n lent e
 
-  -- What 01 accepts is never refused: with a yes to each question, 1, 2, 3, 6 and 7, the answer is Done, with the
+  -- What 01 accepts is never refused: with a yes to each question, 1, 2, 3, 6 and 7, the answer is Ok, with the
   -- result of 01.
   pub evidence_accepts : rate_ok fs ≡ true → count_ok (length iq) ≡ true → all_finite iq ≡ true → work_ok (step_blocks iq fs) (length work) ≡ true
-      → estimate_ok hz step elements element_count fits fit_count ≡ true → (a : EvidenceAnswer) (work-after : List Float)
+      → estimate_ok hz step elements element_count fits fit_count ≡ true → (a : Result SecondCarrierEvidence Refusal) (work-after : List Float)
       → evidence_outcome a work-after ≡ evidence_rule iq fs hz step elements element_count fits fit_count work
-      → a ≡ evidence.Done (evidence_check_of iq fs hz (fits_in fits fit_count) (elements_in elements element_count))
+      → a ≡ Ok (evidence_check_of iq fs hz (fits_in fits fit_count) (elements_in elements element_count))
   unfolding evidence_rule
-  evidence_accepts rate count finite room given (evidence.Refused n) work-after e = absurd (never_refused _ _ _ n _ e (rate, (count, (finite, (room, (given, tt))))))
-  evidence_accepts rate count finite room given (evidence.Done r) work-after e = ap (λ (r : EvidenceResult). evidence.Done r.evidence) (accepted_by _ _ _ _ e).1
+  evidence_accepts rate count finite room given (Err r) work-after e = absurd (never_refused _ _ _ _ _ e (rate, (count, (finite, (room, (given, tt))))))
+  evidence_accepts rate count finite room given (Ok r) work-after e = ap (λ (r : EvidenceResult). Ok r.evidence) (accepted_by _ _ _ _ e).1

@@ -1,5 +1,5 @@
 -- The powers that the two measures rank at a given estimate: each is finite, from 0 and no −0.0, so that `total_cmp`
--- order is the order of the values. `promise` and `singles` are what the call ensures where it answers `Done`;
+-- order is the order of the values. `promise` and `singles` are what the call ensures where it answers `Ok`;
 -- `singles` says that each number of the recording is an f32. At most 2 ^ 40 given fits are asked for, 64 TiB of them.
 -- Assumes nothing.
 use Prim.Native.Nat.{ℕ, ◌^◌, ◌≤◌, ◌<◌}
@@ -29,8 +29,7 @@ use Rattle.measure.specs.Evidence.{is_in}
 use Rattle.measure.proofs.Bounds.{gain_sized, gains_of, Plain, amount_plain, left_powers}
 use Rattle.measure.proofs.Levels.{powers_amounts, side_amounts}
 use Rattle.questions.proofs.Calls.{accepted_by}
-use Rattle.given.specs.declared.residual.ResidualAnswer.TheVariants as residual
-use Rattle.given.specs.declared.evidence.EvidenceAnswer.TheVariants as evidence
+use Rattle.std.specs.Prelude.{Ok}
 use Rattle.given.specs.Residual.{residual_rule, residual_outcome}
 use Rattle.given.specs.Evidence.{evidence_rule, evidence_outcome}
 use Rattle.given.proofs.MeasuresAccepted.{MeasureAccepted, measure_accepted}
@@ -57,7 +56,7 @@ module _ (iq : List Float) (fs hz step : Float) (elements : List Float) (element
         amount_plain (get_or (left c) i nan)
         (left_powers iq fs (hz ⊘ fs) (fits_in fits fit_count) singles known.iq_ok known.rate_ok_lem gains (omega arith) class c i h)
 
-    pub residual_ranked : (r : ResidualCheck) → residual_outcome (residual.Done r) work-after ≡ residual_rule iq fs hz step elements element_count fits fit_count work
+    pub residual_ranked : (r : ResidualCheck) → residual_outcome (Ok r) work-after ≡ residual_rule iq fs hz step elements element_count fits fit_count work
         → (c : BlockClass) (i : ℕ) → i < length (left c) → Plain (get_or (left c) i nan)
     unfolding residual_rule
     residual_ranked r promise = left_plain (measure_accepted iq fs hz step elements element_count fits fit_count (length work) (accepted_by _ _ _ _ promise).0)
@@ -69,7 +68,7 @@ module _ (iq : List Float) (fs hz step : Float) (elements : List Float) (element
   abbrev interior : List Float
   interior = powers_of Interior class (mean_at iq fs hz) block_count
 
-  pub evidence_ranked : (r : SecondCarrierEvidence) → evidence_outcome (evidence.Done r) work-after ≡ evidence_rule iq fs hz step elements element_count fits fit_count work
+  pub evidence_ranked : (r : SecondCarrierEvidence) → evidence_outcome (Ok r) work-after ≡ evidence_rule iq fs hz step elements element_count fits fit_count work
       → ((i : ℕ) → i < length side → Plain (get_or side i nan)) × ((i : ℕ) → i < length interior → Plain (get_or interior i nan))
   unfolding evidence_rule
   evidence_ranked r promise =

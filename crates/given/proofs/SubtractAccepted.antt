@@ -8,8 +8,8 @@ use lib.Ieee.{Float}
 use Rattle.row.specs.Window.{rate_ok}
 use Rattle.row.specs.Samples.{all_finite}
 use Rattle.fits.specs.List.{FIT}
-use Rattle.given.specs.declared.removal.SubtractAnswer.{SubtractAnswer}
-use Rattle.given.specs.declared.removal.SubtractAnswer.TheVariants.{Refused, Done}
+use Rattle.std.specs.Prelude.{⊤, Result, Ok, Err}
+use Rattle.questions.specs.declared.refusals.Refusal.{Refusal}
 use Rattle.questions.specs.Answers.{refused}
 use Rattle.questions.specs.Questions.{first_no, ask, count_ok, estimate_ok}
 use Rattle.given.specs.Removal.{subtract_questions, subtract_rule, subtract_outcome}
@@ -40,10 +40,10 @@ module _ (buf : List Float) (fs hz step : Float) (elements : List Float) (elemen
   unfolding subtract_rule
   subtract_number n lent e = refused_asked _ _ _ n lent e
 
-  -- What 01 accepts is never refused: with a yes to each question, 1, 2, 3 and 7, the answer is Done.
+  -- What 01 accepts is never refused: with a yes to each question, 1, 2, 3 and 7, the answer is Ok.
   pub subtract_accepts : rate_ok fs ≡ true → count_ok (length buf) ≡ true → all_finite buf ≡ true → estimate_ok hz step elements element_count fits fit_count ≡ true
-      → (a : SubtractAnswer) (buffer-after : List Float) → subtract_outcome a buffer-after ≡ subtract_rule buf fs hz step elements element_count fits fit_count
-      → a ≡ Done
+      → (a : Result ⊤ Refusal) (buffer-after : List Float) → subtract_outcome a buffer-after ≡ subtract_rule buf fs hz step elements element_count fits fit_count
+      → a ≡ Ok tt
   unfolding subtract_rule
-  subtract_accepts rate count finite given (Refused n) buffer-after e = absurd (never_refused _ _ _ n _ e (rate, (count, (finite, (given, tt)))))
-  subtract_accepts rate count finite given Done buffer-after e = refl
+  subtract_accepts rate count finite given (Err r) buffer-after e = absurd (never_refused _ _ _ _ _ e (rate, (count, (finite, (given, tt)))))
+  subtract_accepts rate count finite given (Ok u) buffer-after e = refl

@@ -1,5 +1,5 @@
 -- `block_classes`, open to callers (01, part 5, with questions 1, 2, 5 and 7), by a given estimate. Definitions only.
-use Rattle.std.specs.Prelude.{ℕ, ◌/◌, List, [], ◌∷◌, length, Float}
+use Rattle.std.specs.Prelude.{ℕ, ◌/◌, List, [], ◌∷◌, length, Float, Result}
 use Rattle.row.specs.Window.{rate_ok}
 use Rattle.lists.specs.Records.{Handed, handed, handed_numbers}
 use Rattle.elements.specs.Element.{elements_in}
@@ -8,9 +8,8 @@ use Rattle.classes.specs.declared.class.BlockClass.{BlockClass}
 use Rattle.classes.specs.Class.{codes_of}
 use Rattle.classes.specs.Classify.{blocks_of, class_of, counts_of}
 use Rattle.given.specs.declared.blocks.BlockClasses.{BlockClasses}
-use Rattle.given.specs.declared.blocks.ClassesAnswer.{ClassesAnswer}
-use Rattle.given.specs.declared.blocks.ClassesAnswer.TheVariants.{Refused, Done}
-use Rattle.questions.specs.Answers.{Outcome, accepted, refused, by_questions}
+use Rattle.questions.specs.declared.refusals.Refusal.{Refusal}
+use Rattle.questions.specs.Answers.{Outcome, outcome_of, by_questions}
 use Rattle.questions.specs.Refusals.{REFUSED_RATE, REFUSED_COUNT, REFUSED_PLACES, REFUSED_GIVEN}
 use Rattle.questions.specs.Questions.{Asked, ask, count_ok, places_ok, estimate_ok}
 
@@ -31,9 +30,8 @@ pub record ClassesResult : Type 0 where
   pub classes : Handed Float
 
 -- the number and the result of each answer, with what the lent slice then holds
-abbrev pub classes_outcome : ClassesAnswer → List Float → Outcome (List Float) ClassesResult
-classes_outcome (Refused n) classes = refused n classes
-classes_outcome (Done b) classes = accepted (record { blocks = b; classes = handed_numbers classes b.blocks })
+abbrev pub classes_outcome : Result BlockClasses Refusal → List Float → Outcome (List Float) ClassesResult
+classes_outcome a classes = outcome_of a (λ b. record { blocks = b; classes = handed_numbers classes b.blocks }) classes
 
 -- the class of each block, by the given elements and fits; the carrier and the carrier step have no part in it
 abbrev pub classes_given : ℕ → Float → List Float → ℕ → List Float → ℕ → ℕ → BlockClass

@@ -1,13 +1,12 @@
 -- `second_carrier_evidence`, open to callers (01, part 6, with questions 1, 2, 3, 6 and 7), on a given estimate.
 -- Definitions only.
-use Rattle.std.specs.Prelude.{ℕ, List, length, Float}
+use Rattle.std.specs.Prelude.{ℕ, List, length, Float, Result}
 use Rattle.elements.specs.Element.{elements_in}
 use Rattle.fits.specs.List.{fits_in}
 use Rattle.measure.specs.declared.evidence.SecondCarrierEvidence.{SecondCarrierEvidence}
 use Rattle.measure.specs.Evidence.{evidence_check_of}
-use Rattle.given.specs.declared.evidence.EvidenceAnswer.{EvidenceAnswer}
-use Rattle.given.specs.declared.evidence.EvidenceAnswer.TheVariants.{Refused, Done}
-use Rattle.questions.specs.Answers.{Outcome, accepted, refused, by_questions}
+use Rattle.questions.specs.declared.refusals.Refusal.{Refusal}
+use Rattle.questions.specs.Answers.{Outcome, outcome_of, by_questions}
 use Rattle.questions.specs.Questions.{measure_questions}
 
 -- The evidence of a second carrier, and the length of the work slice.
@@ -16,9 +15,8 @@ pub record EvidenceResult : Type 0 where
   pub work : ℕ
 
 -- the number and the result of each answer, with what the lent slice then holds
-abbrev pub evidence_outcome : EvidenceAnswer → List Float → Outcome (List Float) EvidenceResult
-evidence_outcome (Refused n) work = refused n work
-evidence_outcome (Done r) work = accepted (record { evidence = r; work = length work })
+abbrev pub evidence_outcome : Result SecondCarrierEvidence Refusal → List Float → Outcome (List Float) EvidenceResult
+evidence_outcome a work = outcome_of a (λ r. record { evidence = r; work = length work }) work
 
 -- The first no is the result, and nothing is written; else the evidence of a second carrier, at the estimate's
 -- carrier, elements and fits. The carrier step is asked about and has no part in it.

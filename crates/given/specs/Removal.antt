@@ -1,11 +1,10 @@
 -- `subtract`, open to callers (01, part 7, with questions 1, 2, 3 and 7), of a given estimate. Definitions only.
-use Rattle.std.specs.Prelude.{ℕ, List, [], ◌∷◌, ◌++◌, Float}
+use Rattle.std.specs.Prelude.{ℕ, List, [], ◌∷◌, ◌++◌, Float, ⊤, Result}
 use Rattle.float.specs.Ops.{◌⊘◌}
 use Rattle.fits.specs.List.{fits_in}
 use Rattle.synth.specs.Removal.{subtracted}
-use Rattle.given.specs.declared.removal.SubtractAnswer.{SubtractAnswer}
-use Rattle.given.specs.declared.removal.SubtractAnswer.TheVariants.{Refused, Done}
-use Rattle.questions.specs.Answers.{Outcome, accepted, refused, by_questions}
+use Rattle.questions.specs.declared.refusals.Refusal.{Refusal}
+use Rattle.questions.specs.Answers.{Outcome, outcome_of, by_questions}
 use Rattle.questions.specs.Refusals.{REFUSED_GIVEN}
 use Rattle.questions.specs.Questions.{Asked, ask, recording_questions, estimate_ok}
 
@@ -15,9 +14,8 @@ subtract_questions buf fs hz step elements element_count fits fit_count =
     recording_questions buf fs ++ (ask REFUSED_GIVEN (estimate_ok hz step elements element_count fits fit_count) ∷ [])
 
 -- the number of a refusal, and what the lent buffer then holds
-abbrev pub subtract_outcome : SubtractAnswer → List Float → Outcome (List Float) (List Float)
-subtract_outcome (Refused n) buf = refused n buf
-subtract_outcome Done buf = accepted buf
+abbrev pub subtract_outcome : Result ⊤ Refusal → List Float → Outcome (List Float) (List Float)
+subtract_outcome a buf = outcome_of a (λ u. buf) buf
 
 -- The first no is the result, and nothing is written; else the buffer holds what the fits, in order, leave of it. The
 -- carrier step and the elements are asked about and have no part in it.

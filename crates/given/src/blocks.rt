@@ -1,11 +1,16 @@
 // block_classes, open to callers.
 ghost use Rattle.std.specs.Prelude.{◌≡◌};
+ghost use Rattle.questions.specs.Refusals.{no_of};
 ghost use Rattle.questions.specs.Questions.{first_no};
 ghost use Rattle.given.specs.Blocks.{classes_questions, classes_outcome, classes_rule};
 
 use classes::{ClassCounts, classify_blocks, count_classes};
-use questions::refusals::{REFUSED_COUNT, REFUSED_GIVEN, REFUSED_PLACES, REFUSED_RATE};
-use questions::{class_places_ok, count_ok, estimate_ok, window_blocks};
+use elements::Elements;
+use fits::Fits;
+use questions::{
+    GivenEstimate, Refusal, ask, class_places_ok, count_ok, estimate_ok, window_blocks,
+};
+use row::SampleRate;
 
 // How many blocks of `window` samples there are, and how many have each class.
 #[derive(Clone, Copy)]
@@ -14,89 +19,46 @@ pub struct BlockClasses {
     pub counts: ClassCounts,
 }
 
-#[derive(Clone, Copy)]
-pub enum ClassesAnswer {
-    Refused(u64),
-    Done(BlockClasses),
-}
-
-// Questions 1, 2, 5 and 7: the number of the first no, 0 where every answer is yes. No recording is lent, so that
-// question 3 has nothing to ask about.
-fn classes_no(
+// Questions 1, 2, 5 and 7. No recording is lent, so that question 3 has nothing to ask about.
+#[tactic(auto, using(questions::proofs::Numbers::number_some), unfolding(questions::specs::Questions::first_no))]
+fn accept_classes(
     iq_len: usize,
     fs: f64,
-    carrier_hz: f64,
-    carrier_step_hz: f64,
-    elements: &[f64],
-    element_count: usize,
-    fits: &[f64],
-    fit_count: usize,
+    given: &GivenEstimate,
     places: usize,
-) -> u64
-    ensures { result ≡ first_no (classes_questions iq_len fs carrier_hz carrier_step_hz elements.now element_count fits.now fit_count places) }
+) -> Result<(), Refusal>
+    ensures { let g = given.now in no_of result
+        ≡ first_no (classes_questions iq_len fs g.carrier_hz g.carrier_step_hz g.elements.now g.element_count g.fits.now g.fit_count places) }
 {
-    if !row::rate_ok(fs) {
-        return REFUSED_RATE;
-    }
-    if !count_ok(iq_len) {
-        return REFUSED_COUNT;
-    }
-    if !class_places_ok(iq_len, fs, places) {
-        return REFUSED_PLACES;
-    }
-    if !estimate_ok(
-        carrier_hz,
-        carrier_step_hz,
-        elements,
-        element_count,
-        fits,
-        fit_count,
-    ) {
-        return REFUSED_GIVEN;
-    }
-    0
+    ask(row::rate_ok(fs), Refusal::Rate)?;
+    ask(count_ok(iq_len), Refusal::Count)?;
+    ask(class_places_ok(iq_len, fs, places), Refusal::Places)?;
+    ask(estimate_ok(given), Refusal::Given)
 }
 
-// Rust: classify_blocks, which is not open there. It asks first; the estimate is given as its carrier, its carrier step
-// and two flat lists, the recording as its length alone, and the list of classes is lent.
+// Rust: classify_blocks, which is not open there. It asks first; the recording is given as its length alone, and the
+// list of classes is lent.
 pub fn block_classes(
     iq_len: usize,
     fs: f64,
-    carrier_hz: f64,
-    carrier_step_hz: f64,
-    elements: &[f64],
-    element_count: usize,
-    fits: &[f64],
-    fit_count: usize,
+    given: &GivenEstimate,
     classes: &mut [f64],
-) -> ClassesAnswer
-    ensures { classes_outcome result classes.new
-        ≡ classes_rule iq_len fs carrier_hz carrier_step_hz elements.now element_count fits.now fit_count classes.old }
+) -> Result<BlockClasses, Refusal>
+    ensures { let g = given.now in classes_outcome result classes.new
+        ≡ classes_rule iq_len fs g.carrier_hz g.carrier_step_hz g.elements.now g.element_count g.fits.now g.fit_count classes.old }
 {
-    let no = classes_no(
-        iq_len,
-        fs,
-        carrier_hz,
-        carrier_step_hz,
-        elements,
-        element_count,
-        fits,
-        fit_count,
-        classes.len(),
-    );
-    if no != 0 {
-        return ClassesAnswer::Refused(no);
-    }
+    accept_classes(iq_len, fs, given, classes.len())?;
     let blocks = window_blocks(iq_len, fs);
-    classify_blocks(
-        fs,
-        iq_len / 2,
-        elements,
-        element_count,
-        fits,
-        fit_count,
-        &mut classes[0..blocks],
-    );
+    let elements = Elements {
+        numbers: given.elements,
+        count: given.element_count,
+    };
+    let fits = Fits {
+        numbers: given.fits,
+        count: given.fit_count,
+    };
+    let rate = SampleRate::new(fs);
+    classify_blocks(rate, iq_len / 2, &elements, &fits, &mut classes[0..blocks]);
     let counts = count_classes(&classes[0..blocks]);
-    ClassesAnswer::Done(BlockClasses { blocks, counts })
+    Ok(BlockClasses { blocks, counts })
 }

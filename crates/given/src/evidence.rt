@@ -3,57 +3,42 @@ ghost use Rattle.std.specs.Prelude.{◌≡◌};
 ghost use Rattle.row.specs.Samples.{Singles};
 ghost use Rattle.given.specs.Evidence.{evidence_outcome, evidence_rule};
 
+use elements::Elements;
+use fits::Fits;
 use measure::SecondCarrierEvidence;
-use questions::measure_no;
+use questions::{GivenEstimate, Refusal, accept_measure};
+use row::Recording;
+use trig::Sines;
 
-#[derive(Clone, Copy)]
-pub enum EvidenceAnswer {
-    Refused(u64),
-    Done(SecondCarrierEvidence),
-}
-
-// Rust: second_carrier_evidence. It asks first; the estimate is given as its carrier, its carrier step and two flat
-// lists. Each number of the recording is an f32, as in residual_check.
+// Rust: second_carrier_evidence. It asks first. Each number of the recording is an f32, as in residual_check.
 pub fn second_carrier_evidence(
     iq: &[f32],
     fs: f64,
-    carrier_hz: f64,
-    carrier_step_hz: f64,
-    elements: &[f64],
-    element_count: usize,
-    fits: &[f64],
-    fit_count: usize,
+    given: &GivenEstimate,
     work: &mut [f64],
-) -> EvidenceAnswer
-    ensures work_after { evidence_outcome result work.new
-        ≡ evidence_rule iq.now fs carrier_hz carrier_step_hz elements.now element_count fits.now fit_count work.old }
+) -> Result<SecondCarrierEvidence, Refusal>
+    ensures work_after { let g = given.now in evidence_outcome result work.new
+        ≡ evidence_rule iq.now fs g.carrier_hz g.carrier_step_hz g.elements.now g.element_count g.fits.now g.fit_count work.old }
     ensures singles { Singles iq.now }
 {
-    let no = measure_no(
-        iq,
-        fs,
-        carrier_hz,
-        carrier_step_hz,
-        elements,
-        element_count,
-        fits,
-        fit_count,
-        work.len(),
-    );
-    if no != 0 {
-        return EvidenceAnswer::Refused(no);
-    }
-    let sine = trig::sine_table();
+    accept_measure(iq, fs, given, work.len())?;
+    let recording = Recording::new(iq, fs);
+    let elements = Elements {
+        numbers: given.elements,
+        count: given.element_count,
+    };
+    let fits = Fits {
+        numbers: given.fits,
+        count: given.fit_count,
+    };
+    let sine = Sines::new();
     let evidence = measure::second_carrier_evidence(
-        iq,
-        fs,
-        carrier_hz,
-        elements,
-        element_count,
-        fits,
-        fit_count,
+        &recording,
+        given.carrier_hz,
+        &elements,
+        &fits,
         work,
         &sine,
     );
-    EvidenceAnswer::Done(evidence)
+    Ok(evidence)
 }

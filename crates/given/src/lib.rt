@@ -1,5 +1,5 @@
-// The calls at a given estimate, a file each: it asks 01's questions in its order, then does the work. None has a
-// `requires`. Crate `cancel` hands them on with the other calls.
+// The calls at a given estimate, which is its carrier, its carrier step and two flat lists; a file each: it asks 01's
+// questions in its order, then does the work. None has a `requires`. Crate `cancel` hands them on with the other calls.
 #![tactic(auto)]
 
 mod blocks;
@@ -7,7 +7,7 @@ mod evidence;
 mod removal;
 mod residual;
 
-pub use blocks::{BlockClasses, ClassesAnswer, block_classes};
-pub use evidence::{EvidenceAnswer, second_carrier_evidence};
-pub use removal::{SubtractAnswer, subtract};
-pub use residual::{ResidualAnswer, residual_check};
+pub use blocks::{BlockClasses, block_classes};
+pub use evidence::second_carrier_evidence;
+pub use removal::subtract;
+pub use residual::residual_check;

@@ -3,57 +3,44 @@ ghost use Rattle.std.specs.Prelude.{◌≡◌};
 ghost use Rattle.row.specs.Samples.{Singles};
 ghost use Rattle.given.specs.Residual.{residual_outcome, residual_rule};
 
+use elements::Elements;
+use fits::Fits;
 use measure::ResidualCheck;
-use questions::measure_no;
+use questions::{GivenEstimate, Refusal, accept_measure};
+use row::Recording;
+use trig::Sines;
 
-#[derive(Clone, Copy)]
-pub enum ResidualAnswer {
-    Refused(u64),
-    Done(ResidualCheck),
-}
-
-// Rust: residual_check. It asks first; the estimate is given as its carrier, its carrier step and two flat lists. What
-// is promised of the numbers it was handed, that each is an f32, is what the theorem on the ranked powers goes by.
+// Rust: residual_check. It asks first. What is promised of the numbers it was handed, that each is an f32, is what the
+// theorem on the ranked powers goes by.
+// Its steps are second_carrier_evidence's: one function for both would take a closure over what is lent, no plainer.
 pub fn residual_check(
     iq: &[f32],
     fs: f64,
-    carrier_hz: f64,
-    carrier_step_hz: f64,
-    elements: &[f64],
-    element_count: usize,
-    fits: &[f64],
-    fit_count: usize,
+    given: &GivenEstimate,
     work: &mut [f64],
-) -> ResidualAnswer
-    ensures work_after { residual_outcome result work.new
-        ≡ residual_rule iq.now fs carrier_hz carrier_step_hz elements.now element_count fits.now fit_count work.old }
+) -> Result<ResidualCheck, Refusal>
+    ensures work_after { let g = given.now in residual_outcome result work.new
+        ≡ residual_rule iq.now fs g.carrier_hz g.carrier_step_hz g.elements.now g.element_count g.fits.now g.fit_count work.old }
     ensures singles { Singles iq.now }
 {
-    let no = measure_no(
-        iq,
-        fs,
-        carrier_hz,
-        carrier_step_hz,
-        elements,
-        element_count,
-        fits,
-        fit_count,
-        work.len(),
-    );
-    if no != 0 {
-        return ResidualAnswer::Refused(no);
-    }
-    let sine = trig::sine_table();
+    accept_measure(iq, fs, given, work.len())?;
+    let recording = Recording::new(iq, fs);
+    let elements = Elements {
+        numbers: given.elements,
+        count: given.element_count,
+    };
+    let fits = Fits {
+        numbers: given.fits,
+        count: given.fit_count,
+    };
+    let sine = Sines::new();
     let check = measure::residual_check(
-        iq,
-        fs,
-        carrier_hz,
-        elements,
-        element_count,
-        fits,
-        fit_count,
+        &recording,
+        given.carrier_hz,
+        &elements,
+        &fits,
         work,
         &sine,
     );
-    ResidualAnswer::Done(check)
+    Ok(check)
 }

@@ -1,4 +1,5 @@
 -- The ways out of `interior_of`, and what an interior is: at least one sample long, and within the recording.
+use Rattle.std.proofs.Common.{None, ap}
 use mathlib.Core.Path.{◌≡◌, refl}
 use mathlib.Core.Bool.{Bool, true, false, ◌||◌, cond}
 use Prim.Native.Nat.{ℕ, ◌+◌, ◌^◌, ◌≤◌, ◌<◌}
@@ -16,10 +17,10 @@ use Rattle.float.proofs.Monotone.{le_through, ceil_mono}
 use Rattle.float.proofs.Within.{Within, within_finite, within_more, le_within, add_within, sub_within, mul_within}
 use Rattle.float.proofs.Intervals.{interval_is}
 use Rattle.row.specs.Window.{Rate}
+use Rattle.row.specs.declared.span.Span.{Span}
 use Rattle.constants.specs.Constants.{RISE_S, MIN_INTERIOR_S}
 use Rattle.constants.proofs.Bits.{rise_bits}
-use Rattle.interiors.specs.declared.interior.Interior.TheVariants.{Inside, Nothing}
-use Rattle.interiors.specs.Interior.{lo_of, hi_of, min_len, unfit, interior_of}
+use Rattle.interiors.specs.Interior.{inside, lo_of, hi_of, min_len, unfit, interior_of}
 use Rattle.float.specs.Size.{sized}
 use Rattle.row.proofs.Steps.{rate_pos}
 
@@ -32,21 +33,21 @@ unfolding hi_of
 hi_is fs end hi e = rw (rise_bits) e
 
 module _ (n : ℕ) (fs start end lo hi : Float) (e : lo ≡ lo_of fs start) (f : hi ≡ hi_of fs end) where
-  pub before_it : lt lo plus_zero ≡ true → Nothing ≡ interior_of n fs start end
+  pub before_it : lt lo plus_zero ≡ true → None ≡ interior_of n fs start end
   unfolding interior_of unfit
   before_it h = rw (← e, h)
 
   module _ (top : Float) (g : top ≡ of n) (h : lt lo plus_zero ≡ false) where
-    pub past_it : lt top hi ≡ true → Nothing ≡ interior_of n fs start end
+    pub past_it : lt top hi ≡ true → None ≡ interior_of n fs start end
     unfolding interior_of unfit
     past_it i = rw (← e, ← f, ← g, h, i)
 
     module _ (least : Float) (j : least ≡ of (min_len fs)) (i : lt top hi ≡ false) where
-      pub too_short : lt (hi ⊖ lo) least ≡ true → Nothing ≡ interior_of n fs start end
+      pub too_short : lt (hi ⊖ lo) least ≡ true → None ≡ interior_of n fs start end
       unfolding interior_of unfit
       too_short k = rw (← e, ← f, ← g, ← j, h, i, k)
 
-      pub long_enough : (a b : ℕ) → a ≡ to_unsigned 64 lo → b ≡ to_unsigned 64 hi → lt (hi ⊖ lo) least ≡ false → Inside a b ≡ interior_of n fs start end
+      pub long_enough : (a b : ℕ) → a ≡ to_unsigned 64 lo → b ≡ to_unsigned 64 hi → lt (hi ⊖ lo) least ≡ false → inside a b ≡ interior_of n fs start end
       unfolding interior_of unfit
       long_enough a b p q k = rw (p, q, ← e, ← f, ← g, ← j, h, i, k)
 
@@ -131,13 +132,14 @@ module _ (fs : Float) (r : Rate fs) where
         (or_left (lt (ceil_of x) plus_zero) _ e) (or_left (lt (of n) (floor_of y)) _ later) (or_right (lt (of n) (floor_of y)) _ later) in
         (further _ _ _ least_low i.long, i.inside)
 
-    pub interior_within : (a b : ℕ) → Inside a b ≡ interior_of n fs start end → (a + 20 ≤ b) × (b ≤ n)
+    pub interior_within : (a b : ℕ) → inside a b ≡ interior_of n fs start end → (a + 20 ≤ b) × (b ≤ n)
     unfolding interior_of
     interior_within a b e = go (unfit n fs start end) refl e
       where
-        go : (u : Bool) → unfit n fs start end ≡ u → Inside a b ≡ cond u Nothing (Inside (to_unsigned 64 (lo_of fs start)) (to_unsigned 64 (hi_of fs end))) → (a + 20 ≤ b) × (b ≤ n)
-        go true p q = absurd (let z : ◌≡◌ {A = ℕ} 0 1 = cc in omega arith)
+        go : (u : Bool) → unfit n fs start end ≡ u → inside a b ≡ cond u None (inside (to_unsigned 64 (lo_of fs start)) (to_unsigned 64 (hi_of fs end))) → (a + 20 ≤ b) × (b ≤ n)
+        go true p q = absurd (cc)
         go false p q =
-            let i : a ≡ to_unsigned 64 (lo_of fs start) = cc in
-            let j : b ≡ to_unsigned 64 (hi_of fs end) = cc in
+            let same : ◌≡◌ {A = Span} record { lo = a; hi = b } record { lo = to_unsigned 64 (lo_of fs start); hi = to_unsigned 64 (hi_of fs end) } = cc in
+            let i : a ≡ to_unsigned 64 (lo_of fs start) = ap (λ x. x.lo) same in
+            let j : b ≡ to_unsigned 64 (hi_of fs end) = ap (λ x. x.hi) same in
             rw (i, j) (fit_bounds p)

@@ -1,57 +1,50 @@
--- The laws that a proof's `search laws` goes by.
-use Prim.Native.Nat.{ℕ, ◌+◌, ◌-◌, ◌*◌, ◌≤◌, ◌<◌}
-use native.Mathlib.Omega.{arith}
-use native.Mathlib.Nat.{mul-le-mul_right, suc-mul}
-use mathlib.Core.Path.{◌≡◌, refl}
-use lib.Ieee.{Float, neg, of_bits, lt}
-use borrow.Author.Rules.{rules}
-use borrow.Author.Tests.{le-leb}
-use mathlib.Core.List.{List}
-use mathlib.Core.Bool.{true, false}
-use Rattle.float.specs.Ops.{◌⊘◌, plus_zero}
+-- Laws on what the loops of a fit read and add.
+use Prim.Native.Nat.{ℕ, ◌+◌, ◌*◌, ◌/◌, ◌≤◌, ◌<◌}
 use native.Mathlib.Numerals.{add-one}
+use native.Mathlib.Nat.{add-zero}
+use native.Mathlib.Omega.{arith}
+use mathlib.Core.Path.{◌≡◌, refl, ap, ◌∙◌}
+use mathlib.Core.Bool.{true, false}
+use mathlib.Core.List.{List, []}
+use borrow.Author.Tests.{le-leb}
+use lib.Dec.{lit<}
+use lib.ListN.{length, get_or}
+use lib.Ieee.{Float, nan, neg, of_bits, lt}
+use Rattle.std.specs.Simd.{first_chunks}
+use Rattle.float.specs.Ops.{◌⊘◌, plus_zero}
+use Rattle.lists.specs.Sums.{f_sum, total}
+use Rattle.lists.proofs.Chunks.{chunk_read}
 use Rattle.complex.specs.declared.value.Complex.{Complex}
 use Rattle.complex.specs.Value.{c_new, c_add, c_norm, c_arg}
-use Rattle.complex.specs.Rows.{c_sum, z_set, z_fill}
-use Rattle.complex.proofs.RowLaws.{c_sum_none0, c_sum_turn0, c_sum_done0, z_fill_none, z_fill_turn0, z_fill_done}
-use Rattle.lists.specs.Sums.{f_sum, total}
+use Rattle.complex.specs.Rows.{c_sum}
+use Rattle.complex.proofs.RowLaws.{c_sum_turn0}
 use Rattle.row.specs.Blocks.{derot}
-use Rattle.lists.proofs.Sums.{f_sum_none, f_sum_turn, f_sum_done}
 use Rattle.interiors.specs.Line.{weighted, moment, line_slope}
 use Rattle.interiors.specs.Slope.{phase_on, phase_of}
 use Rattle.interiors.specs.Gain.{hann, leveled}
-use Rattle.interiors.specs.Inner.{point_of, leveled_by}
-
--- the blocks before the last begin no later than it ends
-pub block_within : (i0 block n b m : ℕ) → i0 + n * block ≤ m → b < n → i0 + b * block ≤ m
-block_within i0 block n b m h l = let before : b ≤ n = omega arith in omega (arith, mul-le-mul_right block before)
-
--- block b lies within the interior
-pub block_inside : (i0 block n b m : ℕ) → 2 * (i0 + n * block) ≤ m → b < n → 2 * (i0 + b * block + block) ≤ m
-block_inside i0 block n b m h l = omega (arith, mul-le-mul_right block l, suc-mul b block)
+use Rattle.interiors.specs.Inner.{point_of, phase_in, weight_in, leveled_by}
 
 -- −0.0 of the code is 0.0 negated
 pub total_none : (f : ℕ → Float) → neg plus_zero ≡ total f 0
 unfolding f_sum of_bits neg
 total_none f = refl
 
--- the last of n numbers is stored after the loop
-pub z_fill_last : (l : List Float) (f : ℕ → Complex) (n k : ℕ) (cur new : List Float) (z : Complex)
-    → cur ≡ z_fill l 0 f k → z ≡ f k → new ≡ z_set cur (n - 1) z → 1 ≤ n → n - 1 ≤ k → k ≤ n - 1 → new ≡ z_fill l 0 f n
-z_fill_last l f n k cur new z p e q h g j =
-    let here : k ≡ n - 1 = omega arith in
-    let all : n ≡ n - 1 + 1 = omega arith in
-    rw all (z_fill_turn0 l f (n - 1) cur new z (rw here at p) (rw here at e) q)
+-- ---- point b, read from the pairs of the points
+pub phase_read : (l : List Float) (points : List (List Float)) (b : ℕ) → points ≡ first_chunks 2 (length l / 2) l → b < length l / 2 → get_or (get_or points b []) 0 nan ≡ phase_in l b
+phase_read l points b e h = rw e (chunk_read 2 (length l / 2) l b 0 [] nan h (lit< tt) ∙ ap (λ j. get_or l j nan) (add-zero (2 * b)))
+
+pub weight_read : (l : List Float) (points : List (List Float)) (b : ℕ) → points ≡ first_chunks 2 (length l / 2) l → b < length l / 2 → get_or (get_or points b []) 1 nan ≡ weight_in l b
+weight_read l points b e h = rw e (chunk_read 2 (length l / 2) l b 1 [] nan h (lit< tt))
 
 -- ---- the unwrapped phase, block by block
 pub phase_first : (z : ℕ → Complex) (mean : Complex) (r : Float) → mean ≡ z 0 → r ≡ c_arg mean → r ≡ phase_of z 0
 unfolding phase_of
 phase_first z mean r e p = rw (p, e)
 
-pub phase_turn : (z : ℕ → Complex) (b : ℕ) (phase r : Float) (before next : Complex)
-    → phase ≡ phase_of z b → before ≡ z b → next ≡ z (b + 1) → r ≡ phase_on phase before next → r ≡ phase_of z (b + 1)
+pub phase_turn : (z : ℕ → Complex) (k b : ℕ) (phase r : Float) (before next : Complex)
+    → b ≡ k + 1 → phase ≡ phase_of z k → before ≡ z k → next ≡ z b → r ≡ phase_on phase before next → r ≡ phase_of z b
 unfolding phase_of
-phase_turn z b phase r before next p e f q = rw (q, p, e, f, add-one)
+phase_turn z k b phase r before next more p e f q = rw (q, p, e, f, more, add-one)
 
 pub point_is : (z : ℕ → Complex) (b : ℕ) (phase : Float) (mean r : Complex) → phase ≡ phase_of z b → mean ≡ z b → r ≡ c_new phase (c_norm mean) → r ≡ point_of z b
 point_is z b phase mean r p e q = rw (q, p, e)
@@ -78,5 +71,3 @@ module _ (w t p : ℕ → Float) (n : ℕ) (ws wt wp : Float) (more : 2 ≤ n) (
     pub slope_steep : lt plus_zero den ≡ true → num ⊘ den ≡ line_slope w t p n
     unfolding line_slope
     slope_steep k = rw (le-leb 2 n more, ← e, ← f, ← g, ← i, ← j, h, k)
-
-pub ruleset laws = (rules, f_sum_none, f_sum_turn, f_sum_done, total_none, block_within, block_inside, z_fill_none, z_fill_turn0, z_fill_done, phase_first, phase_turn, point_is, c_sum_none0, c_sum_turn00, c_sum_done0, leveled_is)

@@ -1,7 +1,5 @@
 -- The slope of the points in the work slice is that of the recording.
 use Prim.Native.Nat.{ℕ, ◌*◌, ◌/◌, ◌≤◌, ◌<◌}
-use native.Mathlib.Nat.{div-mul-le_self, mul-le-mul_right}
-use native.Mathlib.Omega.{arith}
 use mathlib.Core.Path.{◌≡◌, ap, ◌∙◌}
 use mathlib.Core.List.{List}
 use borrow.Author.Tests.{lt-leb}
@@ -42,10 +40,3 @@ slope_stored l cur z t n r e h q =
 pub slope_none : (iq : List Float) (cyc : Float) (i0 len block : ℕ) → len / block < 2 → plus_zero ≡ slope_of iq cyc i0 len block
 unfolding slope_of line_slope
 slope_none iq cyc i0 len block h = rw (lt-leb 2 (len / block) h)
-
--- the blocks end no later than the interior, and two or more of them are each shorter
-pub blocks_within : (len block : ℕ) → len / block * block ≤ len
-blocks_within len block = div-mul-le_self len block
-
-pub block_short : (len block : ℕ) → 2 ≤ len / block → block ≤ len
-block_short len block h = omega (arith, div-mul-le_self len block, mul-le-mul_right block h)

@@ -1,13 +1,13 @@
 -- The interior of an element in whole samples, and the block of the slope fit (01, part 4: `fit_elements`).
 -- Definitions only.
-use Rattle.std.specs.Prelude.{ℕ, Bool, ◌||◌, cond, Float}
+use Rattle.std.specs.Prelude.{ℕ, Bool, ◌||◌, cond, Float, Some, None}
+use Rattle.std.specs.declared.option.Option.{Option}
 use Rattle.std.specs.Float.Ieee.{lt, to_unsigned}
 use Rattle.float.specs.Ops.{◌⊕◌, ◌⊖◌, ◌⊗◌, of, plus_zero, one}
 use Rattle.float.specs.Compare.{max_of}
 use Rattle.float.specs.Whole.{floor_of, ceil_of, round_of}
 use Rattle.constants.specs.Constants.{RISE_S, MIN_INTERIOR_S, SLOPE_BLOCK_S}
-use Rattle.interiors.specs.declared.interior.Interior.{Interior}
-use Rattle.interiors.specs.declared.interior.Interior.TheVariants.{Inside, Nothing}
+use Rattle.row.specs.declared.span.Span.{Span}
 
 -- `lo` and `hi`: the whole samples in start + RISE_S × fs .. end − RISE_S × fs
 unfoldable pub lo_of : Float → Float → Float
@@ -27,9 +27,13 @@ unfit n fs start end =
     let hi = hi_of fs end in
     lt lo plus_zero || (lt (of n) hi || lt (hi ⊖ lo) (of (min_len fs)))
 
--- the samples from i0 on, up to but without i1; nothing where the element is skipped
-unfoldable pub interior_of : ℕ → Float → Float → Float → Interior
-interior_of n fs start end = cond (unfit n fs start end) Nothing (Inside (to_unsigned 64 (lo_of fs start)) (to_unsigned 64 (hi_of fs end)))
+-- the samples from i0 on, up to but without i1
+abbrev pub inside : ℕ → ℕ → Option Span
+inside i0 i1 = Some record { lo = i0; hi = i1 }
+
+-- those of an element; nothing where it is skipped
+unfoldable pub interior_of : ℕ → Float → Float → Float → Option Span
+interior_of n fs start end = cond (unfit n fs start end) None (inside (to_unsigned 64 (lo_of fs start)) (to_unsigned 64 (hi_of fs end)))
 
 -- `block`: the samples of a block of the slope fit
 unfoldable pub slope_block : Float → ℕ

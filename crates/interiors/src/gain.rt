@@ -1,21 +1,18 @@
 // The gain of an interior: the Hann-weighted mean of its derotated samples, with the slope removed.
-ghost use Rattle.std.specs.Prelude.{◌≡◌, ◌+◌, ◌*◌, ◌^◌, ◌≤◌, ◌<◌, length};
-ghost use Rattle.trig.specs.Circle.{quarter_sines};
-ghost use Rattle.row.specs.Samples.{Iq};
+ghost use Rattle.std.specs.Prelude.{◌≡◌, ◌^◌, ◌≤◌};
 ghost use Rattle.interiors.specs.Gain.{hann, tilt_of, gain_sum, hann_sum};
-ghost use Rattle.interiors.specs.Inner.{Derotated, leveled_by};
+ghost use Rattle.interiors.specs.Inner.{leveled_by};
 
-use crate::kept::{Kept, derotated_at};
+use crate::kept::Kept;
 use complex::Complex;
-use trig::TAU;
+use trig::{Sines, TAU};
 
 // Rust: `w` in `fit_elements`.
-fn hann_weight(len: usize, j: usize, sine: &[f64; 1025]) -> f64
-    requires sine_value { sine.now ≡ quarter_sines }
-    requires len_bound { (len ≤ 2 ^ 20) × (j ≤ 2 ^ 20) }
+fn hann_weight(len: usize, j: usize, sine: &Sines) -> f64
+    requires { (len ≤ 2 ^ 20) × (j ≤ 2 ^ 20) }
     ensures { result ≡ hann len j }
 {
-    0.5 - 0.5 * trig::cos(TAU * (float::exact(j) + 0.5) / float::exact(len), sine)
+    0.5 - 0.5 * sine.cos(TAU * (float::exact(j) + 0.5) / float::exact(len))
 }
 
 // Rust: `tilt` in `fit_elements`.
@@ -27,16 +24,8 @@ fn tilt(slope: f64, reference: f64, k: usize) -> f64
 }
 
 // The term of sample k, whose derotated value is z, with its weight w.
-fn leveled_at(
-    z: Complex,
-    k: usize,
-    w: f64,
-    slope: f64,
-    reference: f64,
-    sine: &[f64; 1025],
-) -> Complex
-    requires sine_value { sine.now ≡ quarter_sines }
-    requires k_bound { k ≤ 2 ^ 20 }
+fn leveled_at(z: Complex, k: usize, w: f64, slope: f64, reference: f64, sine: &Sines) -> Complex
+    requires { k ≤ 2 ^ 20 }
     ensures { result ≡ leveled_by slope reference k w z }
 {
     let t = tilt(slope, reference, k);
@@ -51,28 +40,17 @@ pub struct Weighed {
 }
 
 // Rust: the loop over the samples in `fit_elements`, whose k is i0 + j.
-pub fn weigh(
-    iq: &[f32],
-    cyc: f64,
-    i0: usize,
-    len: usize,
-    slope: f64,
-    reference: f64,
-    kept: Kept,
-    work: &[f64],
-    sine: &[f64; 1025],
-) -> Weighed
-    requires iq { Iq iq.now }
-    requires sine_value { sine.now ≡ quarter_sines }
-    requires len_in_bounds { 2 * (i0 + len) ≤ length iq.now }
-    requires derotated { Derotated iq.now cyc i0 kept.at kept.count work.now }
-    ensures { (result.sum ≡ gain_sum iq.now cyc i0 len slope reference) × (result.weight ≡ hann_sum len) }
+pub fn weigh(kept: &Kept, slope: f64, reference: f64, sine: &Sines) -> Weighed
+    ensures { let s = kept.now.stretch in (result.sum ≡ gain_sum s.samples.iq.now s.cyc s.i0 s.len slope reference)
+        × (result.weight ≡ hann_sum s.len) }
 {
+    let i0 = kept.stretch.i0;
+    let len = kept.stretch.len;
     let mut sum = Complex::ZERO;
     let mut weight = 0.0;
     for j in 0..len {
         let w = hann_weight(len, j, sine);
-        let z = derotated_at(iq, cyc, i0, j, kept, work, sine);
+        let z = kept.derotated(j, sine);
         sum = sum.add(leveled_at(z, i0 + j, w, slope, reference, sine));
         weight = weight + w;
     }

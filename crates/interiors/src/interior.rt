@@ -4,14 +4,7 @@ ghost use Rattle.float.specs.Ops.{of};
 ghost use Rattle.interiors.specs.Interior.{interior_of, slope_block, min_len};
 
 use constants::{MIN_INTERIOR_S, RISE_S, SLOPE_BLOCK_S};
-
-// From the first sample up to, not including, `past`; or nothing, where the element is too short or leaves the
-// recording.
-#[derive(Clone, Copy)]
-pub enum Interior {
-    Inside { first: usize, past: usize },
-    Nothing,
-}
+use row::Span;
 
 // Rust: `min_len as f64` in `fit_elements`.
 fn min_len(fs: f64) -> f64
@@ -27,8 +20,9 @@ pub fn slope_block(fs: f64) -> usize
     float::to_whole(float::max(float::round(SLOPE_BLOCK_S * fs), 1.0))
 }
 
-// Rust: `lo`, `hi`, `i0` and `i1` in `fit_elements`. n is the number of samples.
-pub fn interior_of(n: usize, fs: f64, start: f64, end: f64) -> Interior
+// Rust: `lo`, `hi`, `i0` and `i1` in `fit_elements`. n is the number of samples. None where the element is too short or
+// leaves the recording.
+pub fn interior_of(n: usize, fs: f64, start: f64, end: f64) -> Option<Span>
     requires { n ≤ 2 ^ 20 }
     ensures { result ≡ interior_of n fs start end }
 {
@@ -36,16 +30,16 @@ pub fn interior_of(n: usize, fs: f64, start: f64, end: f64) -> Interior
     let lo = float::ceil(start + rise);
     let hi = float::floor(end - rise);
     if lo < 0.0 {
-        return Interior::Nothing;
+        return None;
     }
     if hi > float::exact(n) {
-        return Interior::Nothing;
+        return None;
     }
     if hi - lo < min_len(fs) {
-        return Interior::Nothing;
+        return None;
     }
-    Interior::Inside {
-        first: float::to_whole(lo),
-        past: float::to_whole(hi),
-    }
+    Some(Span {
+        lo: float::to_whole(lo),
+        hi: float::to_whole(hi),
+    })
 }

@@ -1,72 +1,60 @@
-// The derotated samples of an interior, kept in the work slice behind the points of the slope fit: slope and gain both
-// read them, and to read one costs less than to derotate it again. A slice too short for all of them keeps the first
-// ones, and the others are derotated where they are read.
-ghost use Rattle.std.specs.Prelude.{◌≡◌, ◌+◌, ◌*◌, ◌≤◌, ◌<◌, length};
-ghost use Rattle.trig.specs.Circle.{quarter_sines};
-ghost use Rattle.row.specs.Samples.{Iq};
+// The derotated samples of a stretch, kept in a lent slice: slope and gain both read them, and to read one costs less
+// than to derotate it again. A slice too short for all of them keeps the first ones, and the others are derotated where
+// they are read.
+ghost use Rattle.std.specs.Prelude.{◌≡◌, ◌+◌, ◌*◌, ◌/◌, ◌≤◌, ◌<◌, length};
 ghost use Rattle.row.specs.Blocks.{derot};
 ghost use Rattle.interiors.specs.Inner.{Derotated};
 
+use crate::stretch::Stretch;
 use complex::Complex;
+use trig::Sines;
 
-// `count` samples, the first at complex number `at` of the slice.
+// A row of complex numbers: the first samples.
 #[derive(Clone, Copy)]
-pub struct Kept {
-    pub at: usize,
-    pub count: usize,
+pub struct Kept<'a> {
+    pub stretch: Stretch<'a>,
+    pub numbers: &'a [f64],
+    pub ghost first_ones: { Derotated stretch.samples.iq.now stretch.cyc stretch.i0 0 (length numbers.now / 2) numbers.now },
 }
 
-// As many of len samples as have room behind so many points, in a slice of so many numbers.
-pub fn room_for(len: usize, points: usize, numbers: usize) -> Kept
-    requires { 2 * points ≤ numbers }
-    ensures { (result.at ≡ points) × (result.count ≤ len) × (2 * (result.at + result.count) ≤ numbers) }
-{
-    let room = numbers / 2 - points;
-    if len < room {
-        return Kept {
-            at: points,
-            count: len,
-        };
+impl<'a> Kept<'a> {
+    // As many samples as have room.
+    pub fn new(stretch: Stretch<'a>, room: &'a mut [f64], sine: &Sines) -> Kept<'a>
+        ensures { result.stretch ≡ stretch.entry }
+    {
+        let count = stretch.len.min(room.len() / 2);
+        let numbers = &mut room[..2 * count];
+        derotate(&stretch, numbers, sine);
+        Kept { stretch, numbers }
     }
-    Kept {
-        at: points,
-        count: room,
+
+    // How many are kept.
+    pub fn count(&self) -> usize
+        ensures { result ≡ length self.now.numbers.now / 2 }
+    {
+        self.numbers.len() / 2
+    }
+
+    // Sample j of the stretch, derotated.
+    pub fn derotated(&self, j: usize, sine: &Sines) -> Complex
+        requires { j < self.now.stretch.len }
+        ensures { let s = self.now.stretch in result ≡ derot s.samples.iq.now s.cyc (s.i0 + j) }
+    {
+        if j < self.count() {
+            return complex::get(self.numbers, j);
+        }
+        self.stretch.derotated(j, sine)
     }
 }
 
-// The samples to keep, from sample i0 on, go to their places.
-pub fn derotate(iq: &[f32], cyc: f64, i0: usize, kept: Kept, work: &mut [f64], sine: &[f64; 1025])
-    requires iq { Iq iq.now }
-    requires sine_value { sine.now ≡ quarter_sines }
-    requires count_in_bounds { 2 * (i0 + kept.count) ≤ length iq.now }
-    requires count_in_bounds_2 { 2 * (kept.at + kept.count) ≤ length work.old }
-    ensures { Derotated iq.now cyc i0 kept.at kept.count work.new }
+// The first samples of a stretch fill the slice.
+fn derotate(stretch: &Stretch, numbers: &mut [f64], sine: &Sines)
+    requires { length numbers.old / 2 ≤ stretch.now.len }
+    ensures { let s = stretch.now in Derotated s.samples.iq.now s.cyc s.i0 0 (length numbers.new / 2) numbers.new }
 {
-    let at = kept.at;
-    let count = kept.count;
+    let count = numbers.len() / 2;
+    // j is the sample's number. Of pairs that chunks_exact_mut lends nothing is known once they are back.
     for j in 0..count {
-        complex::put(work, at + j, row::derotated(iq, cyc, i0 + j, sine));
+        complex::put(numbers, j, stretch.derotated(j, sine));
     }
-}
-
-// Sample j of the interior, derotated.
-pub fn derotated_at(
-    iq: &[f32],
-    cyc: f64,
-    i0: usize,
-    j: usize,
-    kept: Kept,
-    work: &[f64],
-    sine: &[f64; 1025],
-) -> Complex
-    requires iq { Iq iq.now }
-    requires sine_value { sine.now ≡ quarter_sines }
-    requires j_in_bounds { 2 * (i0 + j) + 1 < length iq.now }
-    requires derotated { Derotated iq.now cyc i0 kept.at kept.count work.now }
-    ensures { result ≡ derot iq.now cyc (i0 + j) }
-{
-    if j < kept.count {
-        return complex::get(work, kept.at + j);
-    }
-    row::derotated(iq, cyc, i0 + j, sine)
 }

@@ -7,3 +7,4 @@ pub mod interior;
 pub mod kept;
 pub mod line;
 pub mod slope;
+pub mod stretch;

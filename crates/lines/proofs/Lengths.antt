@@ -3,9 +3,9 @@ use Prim.Native.Nat.{ℕ, ◌+◌}
 use mathlib.Core.Path.{◌≡◌, ap, ◌∙◌}
 use mathlib.Core.List.{List, ◌++◌}
 use lib.ListN.{length, length-append}
+use Rattle.std.specs.Prelude.{codes}
 use Rattle.elements.specs.declared.element.KeyedElement.{KeyedElement}
 use Rattle.engine.specs.declared.run.RunFigures.{RunFigures}
-use Rattle.format.specs.Ascii.{ascii}
 use Rattle.lines.specs.Lines.{size_line, keys_line, air_line, blocks_line, key_lines, hypothesis_line, buffer_line, count_lines, run_lines}
 
 pub count_length : (f : RunFigures) → length (count_lines f)
@@ -28,7 +28,7 @@ run_length f es =
     let keys = key_lines es in
     let hypothesis = hypothesis_line f.hypothesis in
     let buffer = buffer_line f.taken in
-    length-append (ascii "(run 0\n") (counts ++ (keys ++ (hypothesis ++ buffer)))
+    length-append (codes "(run 0\n") (counts ++ (keys ++ (hypothesis ++ buffer)))
     ∙ ap (λ (k : ℕ). 7 + k)
     (length-append counts (keys ++ (hypothesis ++ buffer))
     ∙ ap (λ (k : ℕ). length counts + k) (length-append keys (hypothesis ++ buffer) ∙ ap (λ (k : ℕ). length keys + k) (length-append hypothesis buffer)))

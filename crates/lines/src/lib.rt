@@ -1,122 +1,109 @@
-// The lines of a report in a lent buffer: each is put at a position, and the position behind it is answered. A caller
-// shows that there is room for the line.
+// The lines of a report, each put behind the text that is there. A caller shows that there is room for the line.
 #![tactic(auto)]
 
-ghost use Rattle.std.specs.Prelude.{◌+◌, ◌*◌, ◌≤◌, length};
+ghost use Rattle.std.specs.Prelude.{◌≡◌, ◌*◌, ◌≤◌, length};
 ghost use Rattle.elements.specs.Element.{ELEMENT, elements_in};
-ghost use Rattle.format.specs.Text.{Appended};
+ghost use Rattle.format.specs.Growing.{HasRoom, Grown};
 ghost use Rattle.lines.specs.Lines.{size_line, keys_line, air_line, blocks_line, key_line, key_lines, hypothesis_line, buffer_line, count_lines, run_lines};
 
 use classes::ClassCounts;
-use elements::{Found, KeyedElement, element_at};
+use elements::{ELEMENT, Found, KeyedElement, element_at};
 use engine::RunFigures;
 use float::whole::to_whole;
-use format::{append, line};
+use format::Text;
 use measure::Hypothesis;
 
-fn size_line(out: &mut [u8], at: usize, samples: usize, window: usize, blocks: usize) -> usize
-    requires { at + length (size_line samples window blocks) ≤ length out.old }
-    ensures { Appended out.old at (size_line samples window blocks) out.new result }
+fn size_line(out: &mut Text<'_>, samples: usize, window: usize, blocks: usize)
+    requires { HasRoom out.old (size_line samples window blocks) }
+    ensures { Grown out.old (size_line samples window blocks) out.new }
 {
-    let numbers = [samples, window, blocks];
-    line(out, at, b"(size", &numbers)
+    out.line(b"(size", &[samples, window, blocks]);
 }
 
-fn keys_line(out: &mut [u8], at: usize, found: Found, fitted: usize, skipped: usize) -> usize
-    requires { at + length (keys_line found fitted skipped) ≤ length out.old }
-    ensures { Appended out.old at (keys_line found fitted skipped) out.new result }
+fn keys_line(out: &mut Text<'_>, found: Found, fitted: usize, skipped: usize)
+    requires { HasRoom out.old (keys_line found fitted skipped) }
+    ensures { Grown out.old (keys_line found fitted skipped) out.new }
 {
     let numbers = [found.key_downs, found.listed, found.short, fitted, skipped];
-    line(out, at, b"(keys", &numbers)
+    out.line(b"(keys", &numbers);
 }
 
-fn air_line(out: &mut [u8], at: usize, airtime: usize) -> usize
-    requires { at + length (air_line airtime) ≤ length out.old }
-    ensures { Appended out.old at (air_line airtime) out.new result }
+fn air_line(out: &mut Text<'_>, airtime: usize)
+    requires { HasRoom out.old (air_line airtime) }
+    ensures { Grown out.old (air_line airtime) out.new }
 {
-    let numbers = [airtime];
-    line(out, at, b"(air", &numbers)
+    out.line(b"(air", &[airtime]);
 }
 
-fn blocks_line(out: &mut [u8], at: usize, classes: ClassCounts) -> usize
-    requires { at + length (blocks_line classes) ≤ length out.old }
-    ensures { Appended out.old at (blocks_line classes) out.new result }
+fn blocks_line(out: &mut Text<'_>, classes: ClassCounts)
+    requires { HasRoom out.old (blocks_line classes) }
+    ensures { Grown out.old (blocks_line classes) out.new }
 {
     let numbers = [classes.edge, classes.interior, classes.gap, classes.other];
-    line(out, at, b"(blocks", &numbers)
+    out.line(b"(blocks", &numbers);
 }
 
-fn count_lines(out: &mut [u8], at: usize, f: RunFigures) -> usize
-    requires { at + length (count_lines f) ≤ length out.old }
-    ensures { Appended out.old at (count_lines f) out.new result }
+#[tactic(auto, using(crate::proofs::Lengths::count_length))]
+fn count_lines(out: &mut Text<'_>, f: RunFigures)
+    requires { HasRoom out.old (count_lines f) }
+    ensures { Grown out.old (count_lines f) out.new }
 {
-    let estimate = f.estimate;
-    let found = estimate.found;
-    let classes = f.classes;
-    let sized = size_line(out, at, f.samples, f.window, f.blocks);
-    let keyed = keys_line(out, sized, found, estimate.fitted, f.skipped);
-    let aired = air_line(out, keyed, found.airtime);
-    blocks_line(out, aired, classes)
+    let found = f.estimate.found;
+    size_line(out, f.samples, f.window, f.blocks);
+    keys_line(out, found, f.estimate.fitted, f.skipped);
+    air_line(out, found.airtime);
+    blocks_line(out, f.classes);
 }
 
-fn key_line(out: &mut [u8], at: usize, e: KeyedElement) -> usize
-    requires { at + length (key_line e) ≤ length out.old }
-    ensures { Appended out.old at (key_line e) out.new result }
+fn key_line(out: &mut Text<'_>, e: KeyedElement)
+    requires { HasRoom out.old (key_line e) }
+    ensures { Grown out.old (key_line e) out.new }
 {
-    let up = to_whole(e.up);
-    let down = to_whole(e.down);
-    let numbers = [up, down];
-    line(out, at, b"(key", &numbers)
+    out.line(b"(key", &[to_whole(e.up), to_whole(e.down)]);
 }
 
 // A line for each of the first `listed` elements.
-fn key_lines(out: &mut [u8], at: usize, elements: &[f64], listed: usize) -> usize
+fn key_lines(out: &mut Text<'_>, elements: &[f64], listed: usize)
     requires listed_in_bounds { ELEMENT * listed ≤ length elements.now }
-    requires listed_in_bounds_2 { at + length (key_lines (elements_in elements.now listed)) ≤ length out.old }
-    ensures { Appended out.old at (key_lines (elements_in elements.now listed)) out.new result }
+    requires listed_in_bounds_2 { HasRoom out.old (key_lines (elements_in elements.now listed)) }
+    ensures { Grown out.old (key_lines (elements_in elements.now listed)) out.new }
 {
-    let mut behind = at;
-    for p in 0..listed {
-        behind = key_line(out, behind, element_at(elements, p));
+    for place in elements[..ELEMENT * listed].chunks_exact(ELEMENT) {
+        key_line(out, element_at(place, 0));
     }
-    behind
 }
 
-fn hypothesis_line(out: &mut [u8], at: usize, h: Hypothesis) -> usize
-    requires { at + length (hypothesis_line h) ≤ length out.old }
-    ensures { Appended out.old at (hypothesis_line h) out.new result }
+fn hypothesis_line(h: Hypothesis) -> &'static [u8]
+    ensures { result.now ≡ hypothesis_line h }
 {
     match h {
-        Hypothesis::OneSignal => append(out, at, b"(hypothesis one)\n"),
-        Hypothesis::TwoSignalCw { offset_hz: _ } => append(out, at, b"(hypothesis two)\n"),
-        Hypothesis::NonCw => append(out, at, b"(hypothesis noncw)\n"),
-        Hypothesis::Unresolved => append(out, at, b"(hypothesis unresolved)\n"),
+        Hypothesis::OneSignal => b"(hypothesis one)\n",
+        Hypothesis::TwoSignalCw { offset_hz: _ } => b"(hypothesis two)\n",
+        Hypothesis::NonCw => b"(hypothesis noncw)\n",
+        Hypothesis::Unresolved => b"(hypothesis unresolved)\n",
     }
 }
 
-fn buffer_line(out: &mut [u8], at: usize, taken: bool) -> usize
-    requires { at + length (buffer_line taken) ≤ length out.old }
-    ensures { Appended out.old at (buffer_line taken) out.new result }
+fn buffer_line(taken: bool) -> &'static [u8]
+    ensures { result.now ≡ buffer_line taken }
 {
     if taken {
-        return append(out, at, b"(buffer taken))\n");
+        b"(buffer taken))\n"
+    } else {
+        b"(buffer kept))\n"
     }
-    append(out, at, b"(buffer kept))\n")
 }
 
 // What the run answers and lists, line by line.
-pub fn run_lines(out: &mut [u8], f: RunFigures, elements: &[f64]) -> usize
+#[tactic(auto, using(crate::proofs::Lengths::run_length))]
+pub fn run_lines(out: &mut Text<'_>, f: RunFigures, elements: &[f64])
     requires listed_in_bounds { ELEMENT * f.estimate.found.listed ≤ length elements.now }
-    requires listed_in_bounds_2 { length (run_lines f (elements_in elements.now f.estimate.found.listed)) ≤ length out.old }
-    ensures { Appended out.old 0 (run_lines f (elements_in elements.now f.estimate.found.listed)) out.new result }
+    requires listed_in_bounds_2 { HasRoom out.old (run_lines f (elements_in elements.now f.estimate.found.listed)) }
+    ensures { Grown out.old (run_lines f (elements_in elements.now f.estimate.found.listed)) out.new }
 {
-    let estimate = f.estimate;
-    let found = estimate.found;
-    let listed = found.listed;
-    let hypothesis = f.hypothesis;
-    let opened = append(out, 0, b"(run 0\n");
-    let counted = count_lines(out, opened, f);
-    let keyed = key_lines(out, counted, elements, listed);
-    let supposed = hypothesis_line(out, keyed, hypothesis);
-    buffer_line(out, supposed, f.taken)
+    out.append(b"(run 0\n");
+    count_lines(out, f);
+    key_lines(out, elements, f.estimate.found.listed);
+    out.append(hypothesis_line(f.hypothesis));
+    out.append(buffer_line(f.taken));
 }

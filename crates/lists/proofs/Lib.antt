@@ -11,6 +11,7 @@
 --           `get_d_keep`, `get_d_keep_below`
 -- Members   `member_at`, `map_same`; which ones pass a test: `those_are`, `those_others`, `those_same`
 -- Sums      loops that add: `f_sum_none`, `f_sum_turn`, `f_sum_done`, `f_sum_cong`; `over_more`
+-- Chunks    a list cut into chunks of one size: `chunk_read`, `chunks_take`
 -- Records   records of any kind in a list, by their width and where they are stored: `Kind`, `length_stored`,
 --           `stored_append`; what it then hands out: `stored_handed`, `handed_again`, where places past the count keep
 --           what they held `stored_keeping`; numbers: `numbers_handed`, `numbers_read`, `copied_handed`
@@ -22,4 +23,5 @@ pub mod Those
 pub mod Kept
 pub mod Members
 pub mod Sums
+pub mod Chunks
 pub mod Records

@@ -8,12 +8,10 @@ ghost use Rattle.logarithm.specs.Inner.{digits_of, field_of};
 
 use trig::consts::{LN_2, LN_10};
 
-// 2^-1022: the smallest normal number.
-const NORMAL: f64 = 2.2250738585072014e-308;
-
 // 2^54: times this, every number below the normal ones is a normal one.
 const TWO_54: f64 = 18014398509481984.0;
 
+// The series, written out: a loop would have to keep all powers of q, since the smallest terms are added first.
 fn sum(q: f64) -> f64
     ensures { result ≡ series q }
 {
@@ -50,6 +48,7 @@ fn log_parts(m: f64, e: f64) -> f64
 
 // Of the bit pattern b of a normal number: its digits t under the exponent of 1 are a number from 1 up to 2, and from
 // 1.5 on half of that, with the exponent's field one more.
+#[tactic(auto, using(std::proofs::lemmas::Float::not_nan_f64_bits))]
 fn log_bits(b: u64, bias: f64) -> f64
     ensures { result ≡ log_of (digits_of b) (of (field_of b) ⊖ bias) }
 {
@@ -64,18 +63,17 @@ fn log_bits(b: u64, bias: f64) -> f64
 pub fn log10(y: f64) -> f64
     ensures { result ≡ log10_of y }
 {
-    let infinity = 1.0 / 0.0;
     if y == 0.0 {
-        return -infinity;
+        return f64::NEG_INFINITY;
     }
     if 0.0 < y {
-        if y < infinity {
-            if y < NORMAL {
+        if y < f64::INFINITY {
+            if y < f64::MIN_POSITIVE {
                 return log_bits(f64::to_bits(y * TWO_54), 1077.0);
             }
             return log_bits(f64::to_bits(y), 1023.0);
         }
-        return infinity;
+        return f64::INFINITY;
     }
-    0.0 / 0.0
+    f64::NAN
 }

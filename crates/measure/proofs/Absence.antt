@@ -1,5 +1,7 @@
 -- The offset is absent exactly when no two consecutive gap blocks are both above PAIR_FACTOR × reference
 -- (`absent_exactly`), and present exactly when there are two such blocks (`present_exactly`). Assumes nothing.
+use Rattle.std.proofs.Common.{Some, None}
+use Rattle.std.specs.declared.option.Option.{Option}
 use Prim.Native.Nat.{ℕ, zero, suc, ◌+◌, ◌<◌}
 use native.Mathlib.Numerals.{add-one}
 use native.Mathlib.Omega.{arith}
@@ -18,8 +20,6 @@ use Rattle.complex.specs.declared.value.Complex.{Complex}
 use Rattle.row.specs.Window.{window_of}
 use Rattle.classes.specs.declared.class.BlockClass.{BlockClass}
 use Rattle.classes.specs.declared.class.BlockClass.TheVariants.{Gap}
-use Rattle.measure.specs.declared.offset.Offset.{Offset}
-use Rattle.measure.specs.declared.offset.Offset.TheVariants.{Hz, Absent}
 use Rattle.prepared.specs.Powers.{block_power}
 use Rattle.gaps.specs.Pairs.{above, strong, preceded, pair_at, pairs_of, IsPair}
 use Rattle.measure.specs.Offset.{f0_of, strongest, power_at, offset_from}
@@ -67,30 +67,30 @@ module _ (gap : ℕ → Bool) (z : ℕ → Complex) (ref : Float) (blocks : ℕ)
   -- ---- the offset, of any three offsets to choose from
 
   module _ (mean : Float → ℕ → Complex) (carrier rate : Float) (paired : List ℕ) where
-    abbrev offset : Offset
+    abbrev offset : Option Float
     offset = offset_from mean carrier rate (pairs_of (strong gap z ref) z blocks) paired
 
     abbrev chosen : Float
     chosen = strongest (power_at mean carrier paired) (f0_of (pairs_of (strong gap z ref) z blocks) rate) rate
 
-    gone : (pairs_of (strong gap z ref) z blocks).count ≡ 0 → offset ≡ Absent
+    gone : (pairs_of (strong gap z ref) z blocks).count ≡ 0 → offset ≡ None
     unfolding offset_from
     gone e = rw (eq-eqb (pairs_of (strong gap z ref) z blocks).count 0 e)
 
-    there : 0 < (pairs_of (strong gap z ref) z blocks).count → offset ≡ Hz chosen
+    there : 0 < (pairs_of (strong gap z ref) z blocks).count → offset ≡ Some chosen
     unfolding offset_from
     there h = rw (ne_eqb (pairs_of (strong gap z ref) z blocks).count 0 (omega arith))
 
-    offset_absent : (offset ≡ Absent) ↔ ((b : ℕ) → IsPair gap z ref blocks b → ⊥)
+    offset_absent : (offset ≡ None) ↔ ((b : ℕ) → IsPair gap z ref blocks b → ⊥)
     offset_absent = (
-      λ e b p. let h : Hz chosen ≡ Absent = sym (there (pair_some b p)) ∙ e in let no : ◌≡◌ {A = ℕ} 0 1 = cc in omega arith,
+      λ e b p. let h : Some chosen ≡ None = sym (there (pair_some b p)) ∙ e in let no : ◌≡◌ {A = ℕ} 0 1 = cc in omega arith,
       λ none. ⊎_elim gone (λ h. let w = some_pair h in absurd (none w.0 w.1)) (eq-zero-or-pos (pairs_of (strong gap z ref) z blocks).count),
     )
 
-    offset_present : ((f : Float) × (offset ≡ Hz f)) ↔ ((b : ℕ) × IsPair gap z ref blocks b)
+    offset_present : ((f : Float) × (offset ≡ Some f)) ↔ ((b : ℕ) × IsPair gap z ref blocks b)
     offset_present = (
       λ w.
-          ⊎_elim (λ e. let h : Absent ≡ Hz w.0 = sym (gone e) ∙ w.1 in let no : ◌≡◌ {A = ℕ} 0 1 = cc in absurd (omega arith))
+          ⊎_elim (λ e. let h : None ≡ Some w.0 = sym (gone e) ∙ w.1 in let no : ◌≡◌ {A = ℕ} 0 1 = cc in absurd (omega arith))
           some_pair (eq-zero-or-pos (pairs_of (strong gap z ref) z blocks).count),
       λ w. (chosen, there (pair_some w.0 w.1)),
     )
@@ -102,10 +102,10 @@ module _ (iq : List Float) (fs carrier : Float) (class : ℕ → BlockClass) (bl
   abbrev pub Paired : ℕ → Type 0
   Paired b = IsPair (is_in Gap class) (mean_at iq fs carrier) (reference_of iq fs carrier class blocks) blocks b
 
-  pub absent_exactly : ((evidence_of iq fs carrier class blocks).offset_hz ≡ Absent) ↔ ((b : ℕ) → Paired b → ⊥)
+  pub absent_exactly : ((evidence_of iq fs carrier class blocks).offset_hz ≡ None) ↔ ((b : ℕ) → Paired b → ⊥)
   unfolding evidence_of evidence_by evidence_with reference_of
   absent_exactly = offset_absent (is_in Gap class) (mean_at iq fs carrier) _ blocks (mean_at iq fs) carrier (fs ⊘ of (window_of fs)) _
 
-  pub present_exactly : ((f : Float) × ((evidence_of iq fs carrier class blocks).offset_hz ≡ Hz f)) ↔ ((b : ℕ) × Paired b)
+  pub present_exactly : ((f : Float) × ((evidence_of iq fs carrier class blocks).offset_hz ≡ Some f)) ↔ ((b : ℕ) × Paired b)
   unfolding evidence_of evidence_by evidence_with reference_of
   present_exactly = offset_present (is_in Gap class) (mean_at iq fs carrier) _ blocks (mean_at iq fs) carrier (fs ⊘ of (window_of fs)) _

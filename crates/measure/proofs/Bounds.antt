@@ -3,6 +3,7 @@
 -- of size at most 2 ^ 355 and at most 2 ^ 40 fits are asked for, and nothing of times, slopes and references. A given
 -- gain that question 7 lets pass has this size (`gain_sized`), and so has every gain of an estimate of its own
 -- (`found_gain` of fits). Assumes nothing.
+use Rattle.std.proofs.Common.{Some}
 use Prim.Native.Nat.{ℕ, zero, suc, ◌+◌, ◌-◌, ◌*◌, ◌^◌, ◌≤◌, ◌<◌, min, max}
 use native.Mathlib.Decide.{dec_lt}
 use native.Mathlib.Omega.{arith}
@@ -28,7 +29,6 @@ use Rattle.row.specs.Window.{Rate, window_of, blocks}
 use Rattle.row.specs.Blocks.{block_mean}
 use Rattle.row.proofs.Steps.{step_low, step_high}
 use Rattle.row.proofs.Bounds.{block_bounded}
-use Rattle.rank.specs.declared.Percentile.TheVariants.{Value}
 use Rattle.rank.specs.Select.{percentile_of}
 use Rattle.rank.specs.Order.{is_minus_zero}
 use Rattle.rank.proofs.Among.{percentile_keeps}
@@ -159,5 +159,5 @@ module _ (iq : List Float) (fs cyc : Float) (fits : List ElementFit) (s : Single
       → Amount (get_or (powers_of c class left (blocks iq (window_of fs))) i nan)
   left_powers class c = picked_holds Amount (λ b. is_class c (class b)) (block_power left) (blocks iq (window_of fs)) left_amount
 
-  pub left_ranked : (class : ℕ → BlockClass) (c : BlockClass) (p v : Float) → percentile_of (powers_of c class left (blocks iq (window_of fs))) p ≡ Value v → Amount v
+  pub left_ranked : (class : ℕ → BlockClass) (c : BlockClass) (p v : Float) → percentile_of (powers_of c class left (blocks iq (window_of fs))) p ≡ Some v → Amount v
   left_ranked class c p v e = percentile_keeps Amount (powers_of c class left (blocks iq (window_of fs))) p v (left_powers class c) e

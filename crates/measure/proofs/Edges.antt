@@ -1,5 +1,7 @@
 -- The residual check at its ends: the row of 01's edge table that speaks of it, and what `ratio_db` and `clean` make of
 -- infinities, of a NaN and of powers below the smallest normal number. Assumes nothing.
+use Rattle.std.proofs.Common.{Some, None}
+use Rattle.std.specs.declared.option.Option.{Option}
 use Prim.Native.Nat.{ℕ, ◌^◌}
 use native.Mathlib.Omega.{arith}
 use mathlib.Core.Path.{◌≡◌, refl}
@@ -13,8 +15,6 @@ use Rattle.logarithm.specs.Logarithm.{mantissa_of, exponent_of, series, log_of, 
 use Rattle.trig.specs.Consts.{LN_2, LN_10}
 use Rattle.constants.specs.Constants.{MIN_POSITIVE, CLEAN_EDGE_OVER_NEIGHBOUR_DB, CLEAN_INTERIOR_OVER_NEIGHBOUR_DB}
 use Rattle.complex.specs.declared.value.Complex.{Complex}
-use Rattle.rank.specs.declared.Percentile.{Percentile}
-use Rattle.rank.specs.declared.Percentile.TheVariants.{Value, Nothing}
 use Rattle.rank.specs.Select.{percentile_of}
 use Rattle.fits.specs.declared.fit.ElementFit.{ElementFit}
 use Rattle.classes.specs.declared.class.BlockClass.{BlockClass}
@@ -24,7 +24,7 @@ use Rattle.prepared.specs.Powers.{powers_of}
 use Rattle.prepared.specs.Left.{residual_mean}
 use Rattle.measure.specs.Residual.{ratio_db, floored, figures_of, residual_of, clean_of}
 
-no_median : percentile_of [] half ≡ Nothing
+no_median : percentile_of [] half ≡ None
 unfolding percentile_of
 no_median = refl
 
@@ -38,14 +38,14 @@ infinite_interior : (r : ResidualCheck) → r.interior_over_neighbour_db ≡ inf
 unfolding clean_of CLEAN_INTERIOR_OVER_NEIGHBOUR_DB of_int neg le lt eq
 infinite_interior r e = rw (e, and-false)
 
-nothing_over : (den : Percentile) → ratio_db Nothing den ≡ inf false
+nothing_over : (den : Option Float) → ratio_db None den ≡ inf false
 unfolding ratio_db
 nothing_over den = refl
 
-over_nothing : (num : Percentile) → ratio_db num Nothing ≡ inf false
+over_nothing : (num : Option Float) → ratio_db num None ≡ inf false
 unfolding ratio_db
-over_nothing (Value n) = refl
-over_nothing Nothing = refl
+over_nothing (Some n) = refl
+over_nothing None = refl
 
 empty : (l : List Float) → length l ≡ 0 → l ≡ []
 empty [] e = refl
@@ -88,17 +88,17 @@ module _ (fs : Float) (z : ℕ → Complex) (class : ℕ → BlockClass) (blocks
 -- ---- ends of `ratio_db`, computed
 
 -- silence in the gaps: the neighbour's level is the smallest normal number, and 4.0 over it is too large
-pub over_silence : ratio_db (Value (of 4)) (floored (Value plus_zero)) ≡ inf false
+pub over_silence : ratio_db (Some (of 4)) (floored (Some plus_zero)) ≡ inf false
 unfolding ratio_db floored max_of is_nan lt MIN_POSITIVE fraction round of_int of_bits mul div log10_of
 over_silence = refl
 
 -- nothing left: −∞ over a neighbour far above the smallest normal number, and 0 dB over silence, where both sides count
 -- as that number
-pub nothing_left : ratio_db (Value plus_zero) (floored (Value (of (2 ^ 60)))) ≡ inf true
+pub nothing_left : ratio_db (Some plus_zero) (floored (Some (of (2 ^ 60)))) ≡ inf true
 unfolding ratio_db floored max_of is_nan lt MIN_POSITIVE fraction round of_int of_bits mul div log10_of
 nothing_left = refl
 
-pub nothing_over_silence : ratio_db (Value plus_zero) (floored (Value plus_zero)) ≡ plus_zero
+pub nothing_over_silence : ratio_db (Some plus_zero) (floored (Some plus_zero)) ≡ plus_zero
 unfolding ratio_db floored max_of is_nan lt MIN_POSITIVE fraction round of_int of_bits add sub mul div neg log10_of mantissa_of exponent_of log_of series LN_2 LN_10
 nothing_over_silence = refl
 

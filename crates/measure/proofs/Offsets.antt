@@ -1,4 +1,5 @@
 -- The offset: the loop that sums a figure of the blocks that pass a test, and the candidates.
+use Rattle.std.proofs.Common.{Some, None}
 use Prim.Native.Nat.{ℕ, ◌+◌, ◌≤◌}
 use native.Mathlib.Omega.{arith}
 use mathlib.Core.Path.{◌≡◌, refl, sym, ap, ap₂, ◌∙◌}
@@ -15,7 +16,6 @@ use Rattle.complex.specs.declared.value.Complex.{Complex}
 use Rattle.complex.specs.Value.{c_arg}
 use Rattle.row.specs.Window.{window_of}
 use Rattle.row.specs.Blocks.{block_mean}
-use Rattle.measure.specs.declared.offset.Offset.TheVariants.{Hz, Absent}
 use Rattle.measure.specs.declared.offset.Candidate.{Candidate}
 use Rattle.gaps.specs.declared.pairs.Pairs.{Pairs}
 use Rattle.prepared.specs.Powers.{block_power}
@@ -72,12 +72,12 @@ strongest_is p f0 rate x y z b r hx hy hz e h =
 -- ---- the ways out of `find_offset`
 
 module _ (mean : Float → ℕ → Complex) (fs carrier : Float) (pairs : Pairs) (blocks : List ℕ) where
-  pub offset_none : (rate : Float) → pairs.count ≡ 0 → Absent ≡ offset_from mean carrier rate pairs blocks
+  pub offset_none : (rate : Float) → pairs.count ≡ 0 → None ≡ offset_from mean carrier rate pairs blocks
   unfolding offset_from
   offset_none rate e = rw (eq-eqb pairs.count 0 e)
 
   pub offset_some : (len : ℕ) (d a r : Float) → (pairs.count ≡ 0 → ⊥) → d ≡ of len → len ≡ window_of fs → a ≡ c_arg pairs.sum
       → r ≡ strongest (power_at mean carrier blocks) (a ⊗ (fs ⊘ d) ⊘ bits 0x4019_21fb_5444_2d18) (fs ⊘ d)
-      → Hz r ≡ offset_from mean carrier (fs ⊘ of (window_of fs)) pairs blocks
+      → Some r ≡ offset_from mean carrier (fs ⊘ of (window_of fs)) pairs blocks
   unfolding offset_from
   offset_some len d a r n e w q h = rw (ne_eqb pairs.count 0 n, h, q, e, w, tau_bits)

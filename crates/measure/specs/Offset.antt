@@ -1,14 +1,13 @@
 -- The offset of a second carrier (01, part 6: `second_carrier_evidence`): a number or absent. `mean c` is the row of
 -- block means at the carrier c. Definitions only.
-use Rattle.std.specs.Prelude.{ℕ, cond, List, eqb, Float}
+use Rattle.std.specs.Prelude.{ℕ, cond, List, eqb, Float, Some, None}
+use Rattle.std.specs.declared.option.Option.{Option}
 use Rattle.std.specs.Float.Ieee.{lt}
 use Rattle.float.specs.Ops.{◌⊕◌, ◌⊖◌, ◌⊗◌, ◌⊘◌, minus_zero}
 use Rattle.lists.specs.Sums.{sum_over}
 use Rattle.trig.specs.Consts.{TAU}
 use Rattle.complex.specs.declared.value.Complex.{Complex}
 use Rattle.complex.specs.Value.{c_arg}
-use Rattle.measure.specs.declared.offset.Offset.{Offset}
-use Rattle.measure.specs.declared.offset.Offset.TheVariants.{Hz, Absent}
 use Rattle.gaps.specs.declared.pairs.Pairs.{Pairs}
 use Rattle.prepared.specs.Powers.{block_power}
 
@@ -29,6 +28,6 @@ abbrev pub f0_of : Pairs → Float → Float
 f0_of pairs rate = c_arg pairs.sum ⊗ rate ⊘ TAU
 
 -- the offset, of the pairs and the blocks in them; absent where there is no pair
-unfoldable pub offset_from : (Float → ℕ → Complex) → Float → Float → Pairs → List ℕ → Offset
+unfoldable pub offset_from : (Float → ℕ → Complex) → Float → Float → Pairs → List ℕ → Option Float
 offset_from mean carrier rate pairs blocks =
-    cond (eqb pairs.count 0) Absent (Hz (strongest (power_at mean carrier blocks) (f0_of pairs rate) rate))
+    cond (eqb pairs.count 0) None (Some (strongest (power_at mean carrier blocks) (f0_of pairs rate) rate))

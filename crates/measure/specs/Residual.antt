@@ -1,6 +1,7 @@
 -- The residual check (01, part 6: `residual_check`, cancel.rs's own `ratio_db`, and `clean`): what taking the fits off
 -- would leave of the strong sender, over the level of its neighbour. Definitions only.
-use Rattle.std.specs.Prelude.{ℕ, Bool, false, ◌&&◌, cond, List, length, Float}
+use Rattle.std.specs.Prelude.{ℕ, Bool, false, ◌&&◌, cond, List, length, Float, Some, None}
+use Rattle.std.specs.declared.option.Option.{Option}
 use Rattle.std.specs.Float.{inf}
 use Rattle.std.specs.Float.Ieee.{lt, le}
 use Rattle.float.specs.Ops.{◌⊗◌, ◌⊘◌, of, plus_zero, half}
@@ -10,8 +11,6 @@ use Rattle.constants.specs.Constants.{NEIGHBOUR_PERCENTILE, MIN_POSITIVE, CLEAN_
 use Rattle.complex.specs.declared.value.Complex.{Complex}
 use Rattle.row.specs.Window.{window_of, samples, blocks}
 use Rattle.row.specs.Blocks.{block_mean}
-use Rattle.rank.specs.declared.Percentile.{Percentile}
-use Rattle.rank.specs.declared.Percentile.TheVariants.{Value, Nothing}
 use Rattle.rank.specs.Select.{percentile_of}
 use Rattle.elements.specs.declared.element.KeyedElement.{KeyedElement}
 use Rattle.fits.specs.declared.fit.ElementFit.{ElementFit}
@@ -24,15 +23,15 @@ use Rattle.prepared.specs.Left.{residual_mean}
 
 -- cancel.rs's `ratio_db`: +∞ where a side is missing or the lower one is not above 0; the upper one counts as no less
 -- than the smallest normal number
-unfoldable pub ratio_db : Percentile → Percentile → Float
-ratio_db (Value n) (Value d) = cond (lt plus_zero d) (of 10 ⊗ log10_of (max_of n MIN_POSITIVE ⊘ d)) (inf false)
-ratio_db (Value n) Nothing = inf false
-ratio_db Nothing d = inf false
+unfoldable pub ratio_db : Option Float → Option Float → Float
+ratio_db (Some n) (Some d) = cond (lt plus_zero d) (of 10 ⊗ log10_of (max_of n MIN_POSITIVE ⊘ d)) (inf false)
+ratio_db (Some n) None = inf false
+ratio_db None d = inf false
 
 -- the Rust's `nb`: the neighbour's level, which is at least the smallest normal number
-unfoldable pub floored : Percentile → Percentile
-floored (Value v) = Value (max_of v MIN_POSITIVE)
-floored Nothing = Nothing
+unfoldable pub floored : Option Float → Option Float
+floored (Some v) = Some (max_of v MIN_POSITIVE)
+floored None = None
 
 -- the figures, from the powers of the edge, interior and gap blocks: their medians over the neighbour's level
 unfoldable pub figures_of : List Float → List Float → List Float → ResidualCheck

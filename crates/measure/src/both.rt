@@ -1,17 +1,20 @@
 // Both measures at an estimate, from one preparation of the work slice.
 ghost use Rattle.std.specs.Prelude.{◌≡◌, ◌*◌, ◌≤◌, length};
-ghost use Rattle.trig.specs.Circle.{quarter_sines};
-ghost use Rattle.row.specs.Samples.{Iq};
-ghost use Rattle.row.specs.Window.{Rate, step_blocks};
-ghost use Rattle.elements.specs.Element.{ELEMENT, elements_in};
-ghost use Rattle.fits.specs.List.{FIT, fits_in};
+ghost use Rattle.row.specs.Window.{step_blocks};
+ghost use Rattle.elements.specs.Element.{elements_in};
+ghost use Rattle.fits.specs.List.{fits_in};
 ghost use Rattle.measure.specs.Both.{measures_of};
 
 use crate::evidence::{SecondCarrierEvidence, evidence};
 use crate::residual::{ResidualCheck, residual};
 use classes::{ClassCounts, count_classes};
+use elements::Elements;
+use fits::Fits;
+use prepared::classed::Classed;
 use prepared::prepare::prepare;
-use prepared::sections::{CLASSES, SIDES};
+use prepared::sections::SIDES;
+use row::Recording;
+use trig::Sines;
 
 // The blocks, how many have each class, and both measures.
 #[derive(Clone, Copy)]
@@ -22,48 +25,27 @@ pub struct Measures {
     pub evidence: SecondCarrierEvidence,
 }
 
-// Rust: residual_check and second_carrier_evidence, which make the block means and the classes once each. The residual
-// check leaves what is prepared as it was.
+// Rust: residual_check and second_carrier_evidence, which make the block means and the classes once each. Both only
+// read what is prepared.
 pub fn measure_both(
-    iq: &[f32],
-    fs: f64,
+    recording: &Recording,
     carrier: f64,
-    elements: &[f64],
-    element_count: usize,
-    fits: &[f64],
-    fit_count: usize,
+    elements: &Elements,
+    fits: &Fits,
     work: &mut [f64],
-    sine: &[f64; 1025],
+    sine: &Sines,
 ) -> Measures
-    requires iq { Iq iq.now }
-    requires rate { Rate fs }
-    requires sine_value { sine.now ≡ quarter_sines }
-    requires element_count_in_bounds { ELEMENT * element_count ≤ length elements.now }
-    requires fit_count_in_bounds { FIT * fit_count ≤ length fits.now }
-    requires fs_in_bounds { 4 * step_blocks iq.now fs ≤ length work.old }
-    ensures { result ≡ measures_of iq.now fs carrier (fits_in fits.now fit_count) (elements_in elements.now element_count) }
+    requires { 4 * step_blocks recording.now.samples.iq.now recording.now.rate.hz ≤ length work.old }
+    ensures { result ≡ measures_of recording.now.samples.iq.now recording.now.rate.hz carrier
+        (fits_in fits.now.numbers.now fits.now.count) (elements_in elements.now.numbers.now elements.now.count) }
 {
-    let grid = prepare(
-        iq,
-        fs,
-        carrier,
-        elements,
-        element_count,
-        fits,
-        fit_count,
-        work,
-        sine,
-    );
-    let blocks = grid.blocks;
-    let from = CLASSES * blocks;
-    let past = SIDES * blocks;
-    let classes = count_classes(&work[from..past]);
-    let check = residual(work, grid, fits, fit_count, sine);
-    let found = evidence(iq, grid, work, sine);
+    let grid = prepare(recording, carrier, elements, fits, work, sine);
+    let (held, free) = work.split_at_mut(SIDES * grid.blocks);
+    let held = Classed::new(&grid, held);
     Measures {
-        blocks,
-        classes,
-        residual: check,
-        evidence: found,
+        blocks: grid.blocks,
+        classes: count_classes(held.codes),
+        residual: residual(&held, fits, free, sine),
+        evidence: evidence(&held, free, sine),
     }
 }

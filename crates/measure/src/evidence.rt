@@ -8,29 +8,32 @@
 //     573 to 596   `offset_hz`                                   measure::offset
 //     597 to 606   the answer                                    here
 ghost use Rattle.std.specs.Prelude.{◌≡◌, ◌*◌, ◌≤◌, length};
-ghost use Rattle.trig.specs.Circle.{quarter_sines};
 ghost use Rattle.complex.specs.Rows.{z_at};
-ghost use Rattle.row.specs.Samples.{Iq};
-ghost use Rattle.row.specs.Window.{Rate, window_of, blocks, step_blocks};
-ghost use Rattle.elements.specs.Element.{ELEMENT, elements_in};
-ghost use Rattle.fits.specs.List.{FIT, fits_in};
+ghost use Rattle.row.specs.Window.{step_blocks};
+ghost use Rattle.elements.specs.Element.{elements_in};
+ghost use Rattle.fits.specs.List.{fits_in};
 ghost use Rattle.classes.specs.declared.class.BlockClass.TheVariants.{Gap, Interior};
-ghost use Rattle.prepared.specs.Sections.{CLASSES, SIDES, EVIDENCE_END};
-ghost use Rattle.prepared.specs.Inner.{class_in};
+ghost use Rattle.prepared.specs.Inner.{of_class};
 ghost use Rattle.gaps.specs.Reference.{mean_at};
 ghost use Rattle.measure.specs.Evidence.{hot_fraction_of, coherence_of, evidence_with, evidence_by, evidence_check_of};
 
-use crate::offset::{Offset, find_offset};
+use crate::offset::find_offset;
+use elements::Elements;
+use fits::Fits;
 use gaps::pairs::{Gaps, Pairs, count_gaps, sum_pairs};
 use gaps::reference::find_reference;
-use prepared::prepare::{Grid, prepare};
+use prepared::classed::Classed;
+use prepared::prepare::prepare;
+use prepared::sections::SIDES;
+use row::Recording;
+use trig::Sines;
 
 // Rust: SecondCarrierEvidence.
 #[derive(Clone, Copy)]
 pub struct SecondCarrierEvidence {
     pub gap_blocks: usize,
     pub hot_fraction: f64,
-    pub offset_hz: Offset,
+    pub offset_hz: Option<f64>,
     pub coherence: f64,
 }
 
@@ -55,82 +58,44 @@ fn coherence(p: Pairs) -> f64
 }
 
 // The evidence against a reference.
-fn evidence_with(
-    iq: &[f32],
-    grid: Grid,
-    work: &[f64],
-    reference: f64,
-    sine: &[f64; 1025],
-) -> SecondCarrierEvidence
-    requires iq { Iq iq.now }
-    requires sine_value { sine.now ≡ quarter_sines }
-    requires window_value { grid.window ≡ window_of grid.fs }
-    requires blocks_value { grid.blocks ≡ blocks iq.now grid.window }
-    requires blocks_in_bounds { SIDES * grid.blocks ≤ length work.now }
-    ensures { result ≡ evidence_with (mean_at iq.now grid.fs) grid.fs grid.carrier (class_in work.now (CLASSES * grid.blocks) Gap)
-        (z_at work.now) grid.blocks reference }
+fn evidence_with(held: &Classed, reference: f64, sine: &Sines) -> SecondCarrierEvidence
+    ensures { result ≡ evidence_with (mean_at held.now.grid.samples.iq.now held.now.grid.rate.hz) held.now.grid.rate.hz held.now.grid.carrier
+        (of_class held.now.codes.now Gap) (z_at held.now.means.now) held.now.grid.blocks reference }
 {
-    let blocks = grid.blocks;
-    let gaps = count_gaps(work, blocks, reference);
-    let pairs = sum_pairs(work, blocks, reference);
-    let offset_hz = find_offset(iq, grid, work, reference, pairs, sine);
+    let gaps = count_gaps(held, reference);
+    let pairs = sum_pairs(held, reference);
     SecondCarrierEvidence {
         gap_blocks: gaps.blocks,
         hot_fraction: hot_fraction(gaps),
-        offset_hz,
+        offset_hz: find_offset(held, reference, pairs, sine),
         coherence: coherence(pairs),
     }
 }
 
-// Past the block means and their classes, which stand in a prepared work slice.
-pub fn evidence(
-    iq: &[f32],
-    grid: Grid,
-    work: &mut [f64],
-    sine: &[f64; 1025],
-) -> SecondCarrierEvidence
-    requires iq { Iq iq.now }
-    requires sine_value { sine.now ≡ quarter_sines }
-    requires window_value { grid.window ≡ window_of grid.fs }
-    requires blocks_value { grid.blocks ≡ blocks iq.now grid.window }
-    requires blocks_in_bounds { EVIDENCE_END * grid.blocks ≤ length work.old }
-    ensures { result ≡ evidence_by (mean_at iq.now grid.fs) grid.fs grid.carrier (class_in work.old (CLASSES * grid.blocks) Gap)
-        (class_in work.old (CLASSES * grid.blocks) Interior) (z_at work.old) grid.blocks }
+// Past the block means and their classes. The powers go to what is free of the work slice.
+pub fn evidence(held: &Classed, free: &mut [f64], sine: &Sines) -> SecondCarrierEvidence
+    requires { 2 * held.now.grid.blocks ≤ length free.old }
+    ensures { result ≡ evidence_by (mean_at held.now.grid.samples.iq.now held.now.grid.rate.hz) held.now.grid.rate.hz held.now.grid.carrier
+        (of_class held.now.codes.now Gap) (of_class held.now.codes.now Interior) (z_at held.now.means.now) held.now.grid.blocks }
 {
-    let reference = find_reference(iq, grid, work, sine);
-    evidence_with(iq, grid, work, reference, sine)
+    let reference = find_reference(held, free, sine);
+    evidence_with(held, reference, sine)
 }
 
 // Rust: second_carrier_evidence. The means, the classes and the powers are in the lent work slice.
 pub fn second_carrier_evidence(
-    iq: &[f32],
-    fs: f64,
+    recording: &Recording,
     carrier: f64,
-    elements: &[f64],
-    element_count: usize,
-    fits: &[f64],
-    fit_count: usize,
+    elements: &Elements,
+    fits: &Fits,
     work: &mut [f64],
-    sine: &[f64; 1025],
+    sine: &Sines,
 ) -> SecondCarrierEvidence
-    requires iq { Iq iq.now }
-    requires rate { Rate fs }
-    requires sine_value { sine.now ≡ quarter_sines }
-    requires element_count_in_bounds { ELEMENT * element_count ≤ length elements.now }
-    requires fit_count_in_bounds { FIT * fit_count ≤ length fits.now }
-    requires fs_in_bounds { 4 * step_blocks iq.now fs ≤ length work.old }
-    ensures { result ≡ evidence_check_of iq.now fs carrier (fits_in fits.now fit_count) (elements_in elements.now element_count) }
+    requires { 4 * step_blocks recording.now.samples.iq.now recording.now.rate.hz ≤ length work.old }
+    ensures { result ≡ evidence_check_of recording.now.samples.iq.now recording.now.rate.hz carrier
+        (fits_in fits.now.numbers.now fits.now.count) (elements_in elements.now.numbers.now elements.now.count) }
 {
-    let grid = prepare(
-        iq,
-        fs,
-        carrier,
-        elements,
-        element_count,
-        fits,
-        fit_count,
-        work,
-        sine,
-    );
-    evidence(iq, grid, work, sine)
+    let grid = prepare(recording, carrier, elements, fits, work, sine);
+    let (held, free) = work.split_at_mut(SIDES * grid.blocks);
+    evidence(&Classed::new(&grid, held), free, sine)
 }

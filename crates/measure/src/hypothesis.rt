@@ -3,7 +3,6 @@ ghost use Rattle.std.specs.Prelude.{◌≡◌};
 ghost use Rattle.measure.specs.Hypothesis.{is_neighbour, hypothesis_between, hypothesis_of};
 
 use crate::evidence::SecondCarrierEvidence;
-use crate::offset::Offset;
 use constants::{MAX_OFFSET_HZ, MIN_COHERENCE, MIN_OFFSET_HZ, NON_CW_MIN_HOT, ONE_SIGNAL_MAX_HOT};
 
 // Rust: Hypothesis.
@@ -20,25 +19,17 @@ fn is_neighbour(offset: f64, coherence: f64) -> bool
     ensures { result ≡ is_neighbour offset coherence }
 {
     let size = float::abs(offset);
-    if coherence >= MIN_COHERENCE {
-        if size >= MIN_OFFSET_HZ {
-            return size <= MAX_OFFSET_HZ;
-        }
-    }
-    false
+    coherence >= MIN_COHERENCE && size >= MIN_OFFSET_HZ && size <= MAX_OFFSET_HZ
 }
 
 // Neither alone nor filled by a steady carrier: the offset decides.
-fn between(offset: Offset, coherence: f64) -> Hypothesis
+fn between(offset: Option<f64>, coherence: f64) -> Hypothesis
     ensures { result ≡ hypothesis_between offset coherence }
 {
-    let Offset::Hz(f) = offset else {
-        return Hypothesis::Unresolved;
-    };
-    if is_neighbour(f, coherence) {
-        return Hypothesis::TwoSignalCw { offset_hz: f };
+    match offset {
+        Some(f) if is_neighbour(f, coherence) => Hypothesis::TwoSignalCw { offset_hz: f },
+        _ => Hypothesis::Unresolved,
     }
-    Hypothesis::Unresolved
 }
 
 // Rust: classify. A hot fraction that is a NaN passes neither of the first two tests.
@@ -51,6 +42,5 @@ pub fn classify(e: SecondCarrierEvidence) -> Hypothesis
     if e.hot_fraction > NON_CW_MIN_HOT {
         return Hypothesis::NonCw;
     }
-    let offset = e.offset_hz;
-    between(offset, e.coherence)
+    between(e.offset_hz, e.coherence)
 }

@@ -11,5 +11,4 @@ pub mod residual;
 pub use both::{Measures, measure_both};
 pub use evidence::{SecondCarrierEvidence, second_carrier_evidence};
 pub use hypothesis::{Hypothesis, classify};
-pub use offset::Offset;
 pub use residual::{ResidualCheck, residual_check};

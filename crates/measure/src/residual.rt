@@ -5,26 +5,27 @@
 //     486 to 491        the fits subtracted from the means        prepared::left
 //     493 to 502        the powers of each class                  prepared::powers
 //     503 to 510        the levels and the answer                 here
-ghost use Rattle.std.specs.Prelude.{◌≡◌, ◌*◌, ◌≤◌, length, take};
-ghost use Rattle.trig.specs.Circle.{quarter_sines};
-ghost use Rattle.row.specs.Samples.{Iq};
-ghost use Rattle.row.specs.Window.{Rate, window_of, step_blocks};
-ghost use Rattle.elements.specs.Element.{ELEMENT, elements_in};
-ghost use Rattle.fits.specs.List.{FIT, fits_in};
-ghost use Rattle.prepared.specs.Sections.{SIDES, RESIDUAL_END};
+ghost use Rattle.std.specs.Prelude.{◌≡◌, ◌*◌, ◌≤◌, length};
+ghost use Rattle.row.specs.Window.{step_blocks};
+ghost use Rattle.elements.specs.Element.{elements_in};
+ghost use Rattle.fits.specs.List.{fits_in};
 ghost use Rattle.measure.specs.Residual.{ratio_db, floored, residual_check_of, clean_of};
-ghost use Rattle.measure.specs.Inner.{figures_from, residual_in};
+ghost use Rattle.measure.specs.Inner.{figures_from, residual_held};
 
 use classes::BlockClass;
 use constants::{
     CLEAN_EDGE_OVER_NEIGHBOUR_DB, CLEAN_INTERIOR_OVER_NEIGHBOUR_DB, MIN_POSITIVE,
     NEIGHBOUR_PERCENTILE,
 };
+use elements::Elements;
+use fits::Fits;
+use prepared::classed::Classed;
 use prepared::left::subtract_from_means;
 use prepared::powers::{Level, level_of};
-use prepared::prepare::{Grid, prepare};
-use prepared::sections::{CLASSES, POWERS, ZLEFT};
-use rank::Percentile;
+use prepared::prepare::prepare;
+use prepared::sections::SIDES;
+use row::Recording;
+use trig::Sines;
 
 // Rust: ResidualCheck.
 #[derive(Clone, Copy)]
@@ -48,14 +49,14 @@ impl ResidualCheck {
 
 // Rust: ratio_db. The floor that the Rust puts under `nb` is put under the lower side here, where it is known to be
 // there.
-fn ratio_db(num: Percentile, den: Percentile) -> f64
+fn ratio_db(num: Option<f64>, den: Option<f64>) -> f64
     ensures { result ≡ ratio_db num (floored den) }
 {
     let infinity = 1.0 / 0.0;
-    let Percentile::Value(n) = num else {
+    let Some(n) = num else {
         return infinity;
     };
-    let Percentile::Value(v) = den else {
+    let Some(v) = den else {
         return infinity;
     };
     let d = float::max(v, MIN_POSITIVE);
@@ -70,83 +71,48 @@ fn ratio_db(num: Percentile, den: Percentile) -> f64
 fn check_of(edge: Level, interior: Level, gap: Level) -> ResidualCheck
     ensures { result ≡ figures_from edge interior gap }
 {
-    let e = edge.value;
-    let i = interior.value;
-    let g = gap.value;
     ResidualCheck {
-        edge_over_neighbour_db: ratio_db(e, g),
-        interior_over_neighbour_db: ratio_db(i, g),
+        edge_over_neighbour_db: ratio_db(edge.value, gap.value),
+        interior_over_neighbour_db: ratio_db(interior.value, gap.value),
         edge_blocks: edge.count,
         interior_blocks: interior.count,
         gap_blocks: gap.count,
     }
 }
 
-// Past the block means and their classes, which stand in a prepared work slice and stay there.
-pub fn residual(
-    work: &mut [f64],
-    grid: Grid,
-    fits: &[f64],
-    count: usize,
-    sine: &[f64; 1025],
-) -> ResidualCheck
-    requires sine_value { sine.now ≡ quarter_sines }
-    requires window_value { grid.window ≡ window_of grid.fs }
-    requires window_bound { grid.blocks * grid.window ≤ 1048576 }
-    requires blocks_in_bounds { RESIDUAL_END * grid.blocks ≤ length work.old }
-    requires count_in_bounds { FIT * count ≤ length fits.now }
-    ensures { (result ≡ residual_in work.old grid.blocks grid.fs (fits_in fits.now count))
-        × (take (SIDES * grid.blocks) work.new ≡ take (SIDES * grid.blocks) work.old) }
+// Past the block means and their classes. What is left of the means, and the powers, go to what is free of the work
+// slice.
+pub fn residual(held: &Classed, fits: &Fits, free: &mut [f64], sine: &Sines) -> ResidualCheck
+    requires { 3 * held.now.grid.blocks ≤ length free.old }
+    ensures { result ≡ residual_held held.now.means.now held.now.codes.now held.now.grid.blocks held.now.grid.rate.hz (fits_in fits.now.numbers.now fits.now.count) }
 {
-    let blocks = grid.blocks;
-    subtract_from_means(work, grid, fits, count, sine);
-    let at = ZLEFT * blocks;
-    let codes = CLASSES * blocks;
-    let out = POWERS * blocks;
-    let edge = level_of(work, at, codes, blocks, BlockClass::Edge, out, 0.5);
-    let interior = level_of(work, at, codes, blocks, BlockClass::Interior, out, 0.5);
-    let gap = level_of(
-        work,
-        at,
-        codes,
-        blocks,
-        BlockClass::Gap,
-        out,
-        NEIGHBOUR_PERCENTILE,
-    );
+    let (left, powers) = free.split_at_mut(2 * held.grid.blocks);
+    subtract_from_means(held, fits, left, sine);
+    let rest = Classed {
+        grid: held.grid,
+        means: left,
+        codes: held.codes,
+    };
+    let edge = level_of(&rest, BlockClass::Edge, 0.5, powers);
+    let interior = level_of(&rest, BlockClass::Interior, 0.5, powers);
+    let gap = level_of(&rest, BlockClass::Gap, NEIGHBOUR_PERCENTILE, powers);
     check_of(edge, interior, gap)
 }
 
-// Rust: residual_check. The estimate is its carrier, and its elements and fits, each in a list with its count.
+// Rust: residual_check. The estimate is its carrier, elements and fits.
 pub fn residual_check(
-    iq: &[f32],
-    fs: f64,
+    recording: &Recording,
     carrier: f64,
-    elements: &[f64],
-    element_count: usize,
-    fits: &[f64],
-    fit_count: usize,
+    elements: &Elements,
+    fits: &Fits,
     work: &mut [f64],
-    sine: &[f64; 1025],
+    sine: &Sines,
 ) -> ResidualCheck
-    requires iq { Iq iq.now }
-    requires rate { Rate fs }
-    requires sine_value { sine.now ≡ quarter_sines }
-    requires element_count_in_bounds { ELEMENT * element_count ≤ length elements.now }
-    requires fit_count_in_bounds { FIT * fit_count ≤ length fits.now }
-    requires fs_in_bounds { 4 * step_blocks iq.now fs ≤ length work.old }
-    ensures { result ≡ residual_check_of iq.now fs carrier (fits_in fits.now fit_count) (elements_in elements.now element_count) }
+    requires { 4 * step_blocks recording.now.samples.iq.now recording.now.rate.hz ≤ length work.old }
+    ensures { result ≡ residual_check_of recording.now.samples.iq.now recording.now.rate.hz carrier
+        (fits_in fits.now.numbers.now fits.now.count) (elements_in elements.now.numbers.now elements.now.count) }
 {
-    let grid = prepare(
-        iq,
-        fs,
-        carrier,
-        elements,
-        element_count,
-        fits,
-        fit_count,
-        work,
-        sine,
-    );
-    residual(work, grid, fits, fit_count, sine)
+    let grid = prepare(recording, carrier, elements, fits, work, sine);
+    let (held, free) = work.split_at_mut(SIDES * grid.blocks);
+    residual(&Classed::new(&grid, held), fits, free, sine)
 }

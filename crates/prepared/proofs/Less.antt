@@ -4,51 +4,48 @@ use native.Mathlib.Numerals.{add-one}
 use native.Mathlib.Decide.{dec_lt}
 use native.Mathlib.Nat.{eq-or-lt_of_le, le_of_suc-le-suc, le-div_iff_mul-le, mul-le-mul_right, suc-mul, div-add-mod'}
 use native.Mathlib.Omega.{arith}
-use mathlib.Core.Path.{◌≡◌, refl, sym, ap, ◌∙◌}
+use mathlib.Core.Path.{◌≡◌, refl, sym, ◌∙◌}
 use mathlib.Core.Logic.{⊎_elim}
 use mathlib.Core.List.{List, [], ◌∷◌, ◌++◌}
-use lib.ListN.{length, get_or, drop, length-take, length-drop}
-use lib.Seq.{get_or-take, get_or-drop}
-use borrow.Rule.Slice.PartMut.{mid_of, put_mid, take_put}
-use lib.Ieee.{Float, nan}
+use lib.ListN.{length}
+use lib.Ieee.{Float}
+use Rattle.std.proofs.lemmas.Grind.{div_ceil_times}
 use Rattle.float.specs.Ops.{of}
 use Rattle.complex.specs.declared.value.Complex.{Complex}
 use Rattle.complex.specs.Value.{c_sub, c_div}
 use Rattle.complex.specs.Rows.{z_at, z_set}
 use Rattle.complex.proofs.RowLaws.{z_at_z_set_same, z_at_z_set_other}
 use Rattle.lists.specs.Firsts.{firsts}
-use Rattle.lists.specs.Fill.{fill}
-use Rattle.lists.proofs.Fill.{length_fill, get_d_fill, get_d_fill_below}
 use Rattle.fits.specs.List.{fit_at, fits_in}
 use Rattle.fits.specs.declared.fit.ElementFit.{ElementFit}
-use Rattle.synth.specs.declared.span.Span.{Span}
+use Rattle.row.specs.declared.span.Span.{Span}
 use Rattle.synth.specs.Span.{span_of}
 use Rattle.synth.specs.Baseband.{synth_at}
-use Rattle.prepared.proofs.Parts.{z_at_same, take_same, put_at}
-use Rattle.prepared.specs.Inner.{Lessened}
+use Rattle.synth.proofs.Spans.{span_inside}
 use Rattle.prepared.specs.Left.{less_from, less_span, less_fit, less_fits}
 
--- ---- the samples of a block: before the loop, a turn of it, and after it
+-- ---- the samples of a block that a span covers, from a up to e: before the loop, a turn of it, and after it
 module _ (fs : Float) (len : ℕ) (f : ElementFit) (z : Complex) (a : ℕ) where
-  pub less_from_none : z ≡ less_from fs len f z a 0
+  pub less_from_none : z ≡ less_from fs len f z a (a - a)
   unfolding less_from
-  less_from_none = refl
+  less_from_none = let none : a - a ≡ 0 = omega arith in rw none
 
-  pub less_from_turn : (n : ℕ) (left s q r : Complex) (d : Float)
-      → left ≡ less_from fs len f z a n → s ≡ synth_at fs f (a + n) → q ≡ c_div s d → d ≡ of len → r ≡ c_sub left q → r ≡ less_from fs len f z a (n + 1)
+  pub less_from_turn : (k : ℕ) (left s q r : Complex) (d : Float) → a ≤ k
+      → left ≡ less_from fs len f z a (k - a) → s ≡ synth_at fs f k → q ≡ c_div s d → d ≡ of len → r ≡ c_sub left q → r ≡ less_from fs len f z a (k + 1 - a)
   unfolding less_from
-  less_from_turn n left s q r d p e h g i = rw (add-one, i, p, h, e, g)
+  less_from_turn k left s q r d g p e h i j =
+      let next : k + 1 - a ≡ suc (k - a) = omega arith in
+      let here : a + (k - a) ≡ k = omega arith in
+      rw (next, here, j, p, h, e, i)
 
-  pub less_from_done : (n k : ℕ) (left : Complex) → left ≡ less_from fs len f z a k → k ≤ n → n ≤ k → left ≡ less_from fs len f z a n
-  less_from_done n k left p h g = let all : k ≡ n = omega arith in rw all at p
+  pub less_from_done : (s : Span) (from e k : ℕ) (left : Complex) → a ≡ max s.lo from → e ≡ min s.hi (from + len)
+      → left ≡ less_from fs len f z a (k - a) → e ≤ k → k - a ≤ e - a → left ≡ less_span fs len f s from z
+  less_from_done s from e k left i j p h g = let all : k - a ≡ e - a = omega arith in rw (← i, ← j, ← all) p
 
--- ---- the samples that a span covers: some of them, and none
-module _ (fs : Float) (len : ℕ) (f : ElementFit) (s : Span) (from : ℕ) (z : Complex) where
-  pub span_some : (a e : ℕ) (r : Complex) → a ≡ max s.lo from → e ≡ min s.hi (from + len) → r ≡ less_from fs len f z a (e - a) → r ≡ less_span fs len f s from z
-  span_some a e r p q h = rw (← p, ← q) h
-
-  pub span_none : (a e : ℕ) → a ≡ max s.lo from → e ≡ min s.hi (from + len) → e ≤ a → z ≡ less_span fs len f s from z
-  span_none a e p q h = let none : e - a ≡ 0 = omega arith in rw (← p, ← q, none) (less_from_none fs len f z a)
+-- none of them, where the span ends before it or at it
+span_none : (fs : Float) (len : ℕ) (f : ElementFit) (s : Span) (from : ℕ) (z : Complex) → min s.hi (from + len) ≤ max s.lo from → z ≡ less_span fs len f s from z
+unfolding less_from
+span_none fs len f s from z h = let none : min s.hi (from + len) - max s.lo from ≡ 0 = omega arith in rw none
 
 -- ---- the blocks of a span
 
@@ -61,11 +58,11 @@ module _ (fs : Float) (len blocks : ℕ) (f : ElementFit) (s : Span) (e : s ≡ 
   -- a block that the span does not reach keeps its mean
   before_span : (j : ℕ) (z : Complex) → j * len + len ≤ s.lo → less_fit fs len blocks f j z ≡ z
   unfolding less_fit
-  before_span j z h = rw (← e) (sym (span_none fs len f s (j * len) z (max s.lo (j * len)) (min s.hi (j * len + len)) refl refl (omega arith)))
+  before_span j z h = rw (← e) (sym (span_none fs len f s (j * len) z (omega arith)))
 
   after_span : (j : ℕ) (z : Complex) → s.hi ≤ j * len → less_fit fs len blocks f j z ≡ z
   unfolding less_fit
-  after_span j z h = rw (← e) (sym (span_none fs len f s (j * len) z (max s.lo (j * len)) (min s.hi (j * len + len)) refl refl (omega arith)))
+  after_span j z h = rw (← e) (sym (span_none fs len f s (j * len) z (omega arith)))
 
   -- the loop over the blocks: before it, a turn of it, and after it
   pub turned_none : 0 < len → Turned fs len blocks f first first (s.lo / len)
@@ -91,29 +88,42 @@ module _ (fs : Float) (len blocks : ℕ) (f : ElementFit) (s : Span) (e : s ≡ 
         rest = λ j h. rw n (z_at_z_set_other cur b j r (omega arith)) ∙ t.rest j (omega arith);
       }
 
-  pub turned_done : (cur : List Float) (b from : ℕ) → Turned fs len blocks f first cur b → from ≡ b * len → s.hi ≤ from → (j : ℕ) → z_at cur j ≡ less_fit fs len blocks f j (z_at first j)
-  turned_done cur b from t g h j = go (dec_lt j b)
+  pub turned_done : 0 < len → (cur : List Float) (b end : ℕ) → Turned fs len blocks f first cur b → end ≡ s.hi / len + min 1 (s.hi % len) → end ≤ b → (j : ℕ) → z_at cur j ≡ less_fit fs len blocks f j (z_at first j)
+  turned_done p cur b end t i h j = go (dec_lt j b)
     where
       go : Dec (j < b) → z_at cur j ≡ less_fit fs len blocks f j (z_at first j)
       go (yes l) = t.done j l
       go (no l) =
           let past : b ≤ j = omega arith in
-          t.rest j past ∙ sym (after_span j (z_at first j) (omega (arith, mul-le-mul_right len past)))
+          let low = mul-le-mul_right len (rw i at h) in
+          let ends = div_ceil_times s.hi len p in
+          t.rest j past ∙ sym (after_span j (z_at first j) (omega (arith, mul-le-mul_right len past, ends.0)))
 
 -- where the block of sample lo starts
 pub first_start : (lo len : ℕ) → lo - lo % len ≡ lo / len * len
 first_start lo len = omega (arith, div-add-mod' lo len)
 
--- a block that begins before the end of a span is one of the whole blocks
-pub block_inside : (blocks len b from hi : ℕ) → from ≡ b * len → from < hi → hi ≤ blocks * len → (b < blocks) × (from + len ≤ blocks * len)
-block_inside blocks len b from hi e h g = let here : b < blocks = go (dec_lt b blocks) in (here, omega (arith, mul-le-mul_right len here, suc-mul b len))
+-- a block of a span is one of the whole blocks
+inside : (blocks len b from hi : ℕ) → 0 < len → from ≡ b * len → b < hi / len + min 1 (hi % len) → hi ≤ blocks * len
+    → (b < blocks) × (from + len ≤ blocks * len)
+inside blocks len b from hi p e h g =
+    let ends = div_ceil_times hi len p in
+    let turns : suc b * len ≤ (hi / len + min 1 (hi % len)) * len = mul-le-mul_right len h in
+    let here : b < blocks = go (dec_lt b blocks) (omega (arith, ends.1, suc-mul b len)) in
+    (here, omega (arith, mul-le-mul_right len here, suc-mul b len))
   where
-    never : blocks * len ≤ b * len → ⊥
-    never q = omega arith
+    never : blocks * len ≤ b * len → b * len < blocks * len → ⊥
+    never q r = omega arith
 
-    go : Dec (b < blocks) → b < blocks
-    go (yes l) = l
-    go (no l) = let past : blocks ≤ b = omega arith in absurd (never (mul-le-mul_right len past))
+    go : Dec (b < blocks) → b * len < blocks * len → b < blocks
+    go (yes l) r = l
+    go (no l) r = let past : blocks ≤ b = omega arith in absurd (never (mul-le-mul_right len past) r)
+
+pub block_inside : (fs : Float) (len blocks : ℕ) (f : ElementFit) (s : Span) (b from end : ℕ) → 0 < len → s ≡ span_of fs (blocks * len) f
+    → end ≡ s.hi / len + min 1 (s.hi % len) → from ≡ b * len → b < end → (b < blocks) × (from + len ≤ blocks * len)
+block_inside fs len blocks f s b from end p e t i h =
+    let last : s.hi ≤ blocks * len = rw e (span_inside fs (blocks * len) f) in
+    inside blocks len b from s.hi p i (rw t at h) last
 
 -- ---- the fits, one after the other
 module _ (fs : Float) (len blocks : ℕ) where
@@ -134,33 +144,3 @@ module _ (fs : Float) (len blocks : ℕ) where
 
     pub fits_done : (n k : ℕ) (z : Complex) → z ≡ less_fits fs len blocks (fits_in l k) b first → k ≤ n → n ≤ k → z ≡ less_fits fs len blocks (fits_in l n) b first
     fits_done n k z p h g = let all : k ≡ n = omega arith in rw all at p
-
--- ---- the means copied, and the copy lent
-module _ (w v ys : List Float) (blocks : ℕ) (e : v ≡ fill w (4 * blocks) (λ i. get_or w i nan) (2 * blocks)) (room : 6 * blocks ≤ length w) where
-  long : length v ≡ length w
-  long = rw e (length_fill w (4 * blocks) (λ i. get_or w i nan) (2 * blocks))
-
-  copied : (i : ℕ) → i < 2 * blocks → get_or (mid_of (4 * blocks) (6 * blocks - 4 * blocks) v) i nan ≡ get_or w i nan
-  copied i h =
-      get_or-take (6 * blocks - 4 * blocks) (drop (4 * blocks) v) i nan (omega arith) ∙ get_or-drop (4 * blocks) v i nan
-      ∙ rw e (get_d_fill w (4 * blocks) (λ j. get_or w j nan) (2 * blocks) i nan h (omega arith))
-
-  pub lessened : (fs : Float) (len : ℕ) (fits : List ElementFit) → length ys ≡ length (mid_of (4 * blocks) (6 * blocks - 4 * blocks) v)
-      → ((b : ℕ) → b < blocks → z_at ys b ≡ less_fits fs len blocks fits b (z_at (mid_of (4 * blocks) (6 * blocks - 4 * blocks) v) b))
-      → Lessened w (put_mid (4 * blocks) (6 * blocks - 4 * blocks) v ys) (λ b. less_fits fs len blocks fits b (z_at w b)) blocks
-  lessened fs len fits size each =
-      record {
-        kept =
-            take_put (4 * blocks) (6 * blocks - 4 * blocks) v ys (omega (arith, long))
-            ∙ take_same v w (4 * blocks) long (omega arith) (λ k l. rw e (get_d_fill_below w (4 * blocks) (λ i. get_or w i nan) (2 * blocks) k nan l));
-        mean = λ b h. z_at_put b h ∙ each b h ∙ ap (less_fits fs len blocks fits b) (z_at_same (mid_of (4 * blocks) (6 * blocks - 4 * blocks) v) w b (λ i l. copied i (omega arith)));
-      }
-    where
-      many : length ys ≡ 2 * blocks
-      many = size ∙ simp (length-take, length-drop) (omega (arith, long))
-
-      z_at_put : (b : ℕ) → b < blocks → z_at (put_mid (4 * blocks) (6 * blocks - 4 * blocks) v ys) (2 * blocks + b) ≡ z_at ys b
-      z_at_put b h =
-          let re : 2 * (2 * blocks + b) ≡ 4 * blocks + 2 * b = omega arith in
-          let im : 2 * (2 * blocks + b) + 1 ≡ 4 * blocks + (2 * b + 1) = omega arith in
-          rw (im, re, put_at (4 * blocks) (6 * blocks - 4 * blocks) v ys (2 * b) (omega (arith, long)) (omega (arith, many)), put_at (4 * blocks) (6 * blocks - 4 * blocks) v ys (2 * b + 1) (omega (arith, long)) (omega (arith, many)))

@@ -1,13 +1,10 @@
 -- Laws on the prepared work slice and on what is left of the means, by subject.
 
--- Parts     slices that agree in part: `take_same`, `take_at`, `take_less`, `z_at_same`, `z_at_below`; a part that was
---           lent and is back: `put_at`
+-- Parts     slices that agree in part: `z_at_same`, `z_at_below`
 -- Prepared  the slice made ready: `counted`, `prepared`, `made`
--- Gathered  the loop that gathers: `gather_yes`, `gather_no`, `gather_done`; what the slice holds then: `gathered`,
---           `gathered_below`, `level_is`, `powers_same`; a prepared slice: `class_prepared`,
---           `prepared_kept`
+-- Gathered  the loop that gathers: `gather_yes`, `gather_no`; the list that is gathered: `gathered`, `level_is`
 -- Less      fits taken off the means, by samples, by blocks, and one after the other: `less_from_turn`, `turned_turn`,
---           `fits_turn`, `lessened`
+--           `fits_turn`
 -- Sampled   what the Rust leaves, sample by sample, is what the definition leaves, block by block: `as_sampled`
 pub mod Parts
 pub mod Prepared

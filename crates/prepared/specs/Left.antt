@@ -6,7 +6,7 @@ use Rattle.complex.specs.declared.value.Complex.{Complex}
 use Rattle.complex.specs.Value.{c_sub, c_div}
 use Rattle.row.specs.Window.{window_of}
 use Rattle.fits.specs.declared.fit.ElementFit.{ElementFit}
-use Rattle.synth.specs.declared.span.Span.{Span}
+use Rattle.row.specs.declared.span.Span.{Span}
 use Rattle.synth.specs.Span.{span_of}
 use Rattle.synth.specs.Baseband.{synth_at}
 

@@ -6,23 +6,6 @@ use Rattle.std.specs.Prelude.{ℕ}
 abbrev pub CLASSES : ℕ
 CLASSES = 2
 
--- behind them, the powers that the evidence ranks: two rows, to both sides of the carrier
+-- behind them, what is free for a measure
 abbrev pub SIDES : ℕ
 SIDES = 3
-
-abbrev pub EVIDENCE_END : ℕ
-EVIDENCE_END = 5
-
--- what is left of the means, and the same counted in complex numbers
-abbrev pub LEFT : ℕ
-LEFT = 4
-
-abbrev pub ZLEFT : ℕ
-ZLEFT = 2
-
--- behind it, the powers that the residual check ranks
-abbrev pub POWERS : ℕ
-POWERS = 6
-
-abbrev pub RESIDUAL_END : ℕ
-RESIDUAL_END = 7

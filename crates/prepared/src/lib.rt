@@ -2,6 +2,8 @@
 // rank the powers of the blocks of a class; the residual check alone takes the fits off the means first.
 #![tactic(auto)]
 
+pub mod classed;
+pub mod grid;
 pub mod left;
 pub mod powers;
 pub mod prepare;

@@ -5,22 +5,32 @@ use Prim.Native.Nat.{ℕ, zero, suc}
 use native.Mathlib.Omega.{arith}
 use mathlib.Core.Path.{◌≡◌, refl, sym, ap, subst, ◌∙◌}
 use mathlib.Core.Logic.{⊎_elim}
-use mathlib.Core.Bool.{false}
+use mathlib.Core.Bool.{false, false≢true}
 use mathlib.Core.List.{List, Memᴰ}
-use Rattle.questions.specs.Answers.{accepted, refused, by_number, by_questions}
+use Rattle.std.specs.Prelude.{Result, Ok, Err, IsErr, IsErrAnd}
+use Rattle.questions.specs.declared.refusals.Refusal.{Refusal}
+use Rattle.questions.specs.Refusals.{number_of}
+use Rattle.questions.proofs.Numbers.{number_some}
+use Rattle.questions.specs.Answers.{accepted, refused, outcome_of, by_number, by_questions}
 use Rattle.questions.specs.Questions.{Asked, ask, first_no}
 use Rattle.questions.proofs.FirstNo.{AllYes, all_yes, first_asked}
 
--- ---- the two ways out: n is the number of the first no, as the code has it
+-- ---- the two ways out of a call: with the refusal that its questions answered, and else with its result
 
-pub refuses : {L A : Type 0} (first : ℕ) (result : A) (lent : L) (n : ℕ) → n ≡ first → (n ≡ 0 → ⊥) → refused n lent ≡ by_number first result lent
+refuses_some : {L A : Type 0} (first : ℕ) (result : A) (lent : L) (n : ℕ) → n ≡ first → (n ≡ 0 → ⊥) → refused n lent ≡ by_number first result lent
 unfolding by_number
-refuses zero result lent n e h = absurd (h e)
-refuses (suc first) result lent n e h = ap (λ k. refused k lent) e
+refuses_some zero result lent n e h = absurd (h e)
+refuses_some (suc first) result lent n e h = ap (λ k. refused k lent) e
 
-pub accepts : {L A : Type 0} (first : ℕ) (result : A) (lent : L) (n : ℕ) (r : A) → n ≡ first → n ≡ 0 → r ≡ result → accepted r ≡ by_number first result lent
+-- `?` hands on the refusal r that it met, as the answer a
+pub refuses : {T L A : Type 0} (first : ℕ) (result : A) (lent : L) (res : T → A) (a : Result T Refusal) (r : Refusal) → IsErr a × IsErrAnd a (λ s. s ≡ r) → number_of r ≡ first
+    → outcome_of a res lent ≡ by_number first result lent
+refuses first result lent res (Ok x) r h e = absurd (false≢true h.0)
+refuses first result lent res (Err s) r h e = rw h.1 (refuses_some first result lent (number_of r) e (number_some r))
+
+pub accepts : {L A : Type 0} (first : ℕ) (result : A) (lent : L) (r : A) → 0 ≡ first → r ≡ result → accepted r ≡ by_number first result lent
 unfolding by_number
-accepts first result lent n r e h q = let none : first ≡ 0 = omega arith in rw (none, q)
+accepts first result lent r e q = rw (← e, q)
 
 -- ---- what a promise says, by the number of the first no
 

@@ -1,15 +1,17 @@
 -- Question 7: the functions that ask it, and what a yes says of the given records. Assumes nothing.
-use Prim.Native.Nat.{ℕ, ◌+◌, ◌*◌, ◌/◌, ◌<◌, ◌≤◌}
-use native.Mathlib.Numerals.{add-one}
+use Prim.Native.Nat.{ℕ, zero, suc, ◌*◌, ◌/◌, ◌<◌, ◌≤◌}
 use native.Mathlib.Omega.{arith}
-use mathlib.Core.Path.{◌≡◌, refl, sym, ◌∙◌}
-use mathlib.Core.Bool.{Bool, true, false, not, ◌&&◌, and-false}
+use mathlib.Core.Path.{◌≡◌, refl, sym}
+use mathlib.Core.Bool.{Bool, true, false, ◌&&◌}
 use mathlib.Core.List.{List}
 use lib.Dec.{T, leb}
 use lib.ListN.{length}
 use lib.Ieee.{Float}
-use borrow.Author.Rules.{rules}
-use borrow.Author.Tests.{not-true, not-false, le-leb, lt-leb, leb-true}
+use borrow.Author.Tests.{le-leb, lt-leb, leb-true}
+use Rattle.std.proofs.lemmas.List.FromFn.{length-range_with_len, get_or-range_with_len}
+use Rattle.std.proofs.Common.{zero-add}
+use Rattle.std.specs.Bool.{MatchBool}
+use Rattle.std.specs.List.{AllWithin, HoldsAt, range_with_len}
 use Rattle.lists.specs.Every.{every}
 use Rattle.lists.proofs.Every.{every_at, every_not, and_left, and_right}
 use Rattle.float.specs.Size.{finite_f, sized}
@@ -21,55 +23,32 @@ use Rattle.fits.specs.List.{FIT, fit_at}
 use Rattle.fits.specs.Inner.{Timed, AllTimed}
 use Rattle.questions.specs.Questions.{size_ok, position_ok, element_ok, all_ok, elements_ok, fit_ok, fits_ok, estimate_ok}
 
--- ---- tests one after the other, each a way out with false: t is what the last one answered
+-- ---- the look at each given record
 
-pub told : (a t : Bool) → t ≡ a → not t ≡ false → true ≡ a
-told a t e h = sym (sym e ∙ not-false t h)
+every_all : (p : ℕ → Bool) (n : ℕ) → ((k : ℕ) → k < n → p k ≡ true) → every p n ≡ true
+every_all p zero h = refl
+every_all p (suc n) h = rw (every_all p n (λ k b. h k (omega arith)), h n (omega arith))
 
-pub denied : (a t : Bool) → t ≡ a → not t ≡ true → false ≡ a
-denied a t e h = sym (sym e ∙ not-true t h)
+-- the chain over the numbers below `count`, as it answers
+abbrev Told : (ℕ → Bool) → ℕ → Bool → Type 0
+Told p n t =
+    let ks = range_with_len 0 n in
+    MatchBool t (AllWithin (λ k. p k ≡ true) ks 0 (length ks)) ((i : ℕ) × (i < length ks) × HoldsAt (λ k. p k ≡ false) ks i)
 
-pub and_both : (a b : Bool) → true ≡ a → true ≡ b → true ≡ (a && b)
-and_both a b e f = rw (← e, ← f)
-
-pub and_last : (a b t : Bool) → true ≡ a → t ≡ b → t ≡ (a && b)
-and_last a b t e f = rw (← e, f)
-
-pub and_denied : (a b : Bool) → false ≡ b → false ≡ (a && b)
-and_denied a b e = rw (← e, and-false a)
-
-pub and_earlier : (a b : Bool) → false ≡ a → false ≡ (a && b)
-and_earlier a b e = rw (← e)
-
-pub ruleset answers = (rules, told, denied, and_both, and_last, and_denied, and_earlier)
-
--- ---- the loop that looks at each given record
-
--- the first p records are accepted
-unfoldable pub ok_to : {A : Type 0} → (A → Bool) → (ℕ → A) → ℕ → Bool
-ok_to ok at p = every (λ k. ok (at k)) p
+every_told : (p : ℕ → Bool) (n : ℕ) (t : Bool) → Told p n t → t ≡ every p n
+every_told p n true h = sym (every_all p n (λ k b. rw (get_or-range_with_len 0 n k 0 b, zero-add) at (h k 0 (omega arith) (rw length-range_with_len b))))
+every_told p n false h =
+    let below : h.0 < n = (rw length-range_with_len at h.1) in
+    sym (every_not p n h.0 below (rw (get_or-range_with_len 0 n h.0 0 below, zero-add) at (h.2 0)))
 
 module _ {A : Type 0} (ok : A → Bool) (at : ℕ → A) where
-  pub ok_none : ok_to ok at 0 ≡ true
-  unfolding ok_to
-  ok_none = refl
-
-  pub ok_turn : (p : ℕ) (e : A) (t : Bool) → ok_to ok at p ≡ true → e ≡ at p → t ≡ ok e → not t ≡ false → ok_to ok at (p + 1) ≡ true
-  unfolding ok_to
-  ok_turn p e t h i q g = rw (add-one, h, ← i, ← q, not-false t g)
-
-  pub ok_done : (places p count : ℕ) → ok_to ok at p ≡ true → p ≤ count → count ≤ p → count ≤ places → true ≡ all_ok ok at places count
-  unfolding ok_to all_ok
-  ok_done places p count h a b f = let all : p ≡ count = omega arith in sym (rw (le-leb count places f, ← all, h))
-
-  pub ok_stop : (places p count : ℕ) (e : A) (t : Bool) → e ≡ at p → t ≡ ok e → not t ≡ true → p < count → count ≤ places → false ≡ all_ok ok at places count
+  pub all_told : (places count : ℕ) (t : Bool) → count ≤ places → Told (λ k. ok (at k)) count t → t ≡ all_ok ok at places count
   unfolding all_ok
-  ok_stop places p count e t i q g b f =
-      sym (rw (le-leb count places f) (every_not (λ k. ok (at k)) count p b (rw (← i) (sym q ∙ not-true t g))))
+  all_told places count t f h = rw (le-leb count places f) (every_told (λ k. ok (at k)) count t h)
 
-  pub ok_over : (places count : ℕ) → places < count → false ≡ all_ok ok at places count
+  pub ok_over : (places count : ℕ) → places < count → leb count places ≡ all_ok ok at places count
   unfolding all_ok
-  ok_over places count h = sym (rw (lt-leb count places h))
+  ok_over places count h = rw (lt-leb count places h)
 
   -- what a yes says: the count fits, and each record is accepted
   pub all_fit : (places count : ℕ) → all_ok ok at places count ≡ true → count ≤ places
@@ -79,8 +58,6 @@ module _ {A : Type 0} (ok : A → Bool) (at : ℕ → A) where
   pub all_at : (places count k : ℕ) → all_ok ok at places count ≡ true → k < count → ok (at k) ≡ true
   unfolding all_ok
   all_at places count k h b = every_at (λ k. ok (at k)) count k b (and_right (leb count places) (every (λ k. ok (at k)) count) h)
-
-pub ruleset given = (rules, ok_none, ok_turn, ok_done, ok_stop, ok_over)
 
 -- ---- what the work below requires of given records
 

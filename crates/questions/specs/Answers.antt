@@ -1,5 +1,7 @@
 -- What a call answers, and what it leaves in what it was lent (01, the end of "Questions"). Definitions only.
-use Rattle.std.specs.Prelude.{ℕ, zero, suc, List}
+use Rattle.std.specs.Prelude.{ℕ, zero, suc, List, Result, Ok, Err}
+use Rattle.questions.specs.declared.refusals.Refusal.{Refusal}
+use Rattle.questions.specs.Refusals.{number_of}
 use Rattle.questions.specs.Questions.{Asked, first_no}
 
 -- An accepted call has its result, of type A: its values, and what each list that it fills hands out. Two things are
@@ -9,6 +11,11 @@ use Rattle.questions.specs.Questions.{Asked, first_no}
 pub data Outcome (L A : Type 0) : Type 0 where
   accepted : A → Outcome L A
   refused : ℕ → L → Outcome L A
+
+-- of what a call answers, with what every lent slice then holds: its result, or its refusal's number
+abbrev pub outcome_of : {T L A : Type 0} → Result T Refusal → (T → A) → L → Outcome L A
+outcome_of (Ok x) result lent = accepted (result x)
+outcome_of (Err r) result lent = refused (number_of r) lent
 
 -- By the number of the first no: 0 accepts, with the result; any other refuses, with the lent slices. A refusal returns
 -- nothing further and writes nothing.

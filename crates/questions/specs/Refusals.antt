@@ -1,5 +1,7 @@
 -- The numbers of refusals, by name: 01's questions, then those that document 02 adds. Definitions only.
-use Rattle.std.specs.Prelude.{ℕ}
+use Rattle.std.specs.Prelude.{ℕ, ⊤, Result, Ok, Err}
+use Rattle.questions.specs.declared.refusals.Refusal.{Refusal}
+use Rattle.questions.specs.declared.refusals.Refusal.TheVariants.{Rate, Count, Sample, Carrier, Places, Work, Given, Valley, Peak, Hints, Answers, Records, Evidence, Tray, Reference, Unit, Order, Text, Positions}
 
 -- fs is no number from 2,000 to 192,000
 abbrev pub REFUSED_RATE : ℕ
@@ -78,3 +80,29 @@ REFUSED_TEXT = 18
 -- a list whose positions are out of order
 abbrev pub REFUSED_POSITIONS : ℕ
 REFUSED_POSITIONS = 19
+
+-- ---- a refusal's number, and that of an answer with nothing in it: 0 where it is no refusal
+abbrev pub number_of : Refusal → ℕ
+number_of Rate = REFUSED_RATE
+number_of Count = REFUSED_COUNT
+number_of Sample = REFUSED_SAMPLE
+number_of Carrier = REFUSED_CARRIER
+number_of Places = REFUSED_PLACES
+number_of Work = REFUSED_WORK
+number_of Given = REFUSED_GIVEN
+number_of Valley = REFUSED_VALLEY
+number_of Peak = REFUSED_PEAK
+number_of Hints = REFUSED_HINTS
+number_of Answers = REFUSED_ANSWERS
+number_of Records = REFUSED_RECORDS
+number_of Evidence = REFUSED_EVIDENCE
+number_of Tray = REFUSED_TRAY
+number_of Reference = REFUSED_REFERENCE
+number_of Unit = REFUSED_UNIT
+number_of Order = REFUSED_ORDER
+number_of Text = REFUSED_TEXT
+number_of Positions = REFUSED_POSITIONS
+
+abbrev pub no_of : Result ⊤ Refusal → ℕ
+no_of (Ok u) = 0
+no_of (Err r) = number_of r

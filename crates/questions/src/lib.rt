@@ -3,54 +3,54 @@
 // which does not hand the questions on.
 #![tactic(auto)]
 
-pub mod refusals;
+mod estimate;
+mod refusals;
 
-ghost use Rattle.std.specs.Prelude.{◌≡◌, ◌/◌};
+ghost use Rattle.std.specs.Prelude.{◌≡◌, ◌/◌, [], ◌∷◌};
 ghost use Rattle.row.specs.Window.{step_blocks};
 ghost use Rattle.row.specs.Envelope.{row_length};
 ghost use Rattle.classes.specs.Classify.{blocks_of};
-ghost use Rattle.questions.specs.Questions.{blocks_for, first_no, recording_questions, count_ok, carrier_ok, places_ok, work_ok, size_ok, position_ok, element_ok, elements_ok, fit_ok, fits_ok, estimate_ok, estimate_questions, measure_questions};
+ghost use Rattle.questions.specs.Refusals.{number_of, no_of};
+ghost use Rattle.questions.specs.Questions.{blocks_for, ask, first_no, recording_questions, count_ok, carrier_ok, places_ok, work_ok, size_ok, position_ok, element_ok, elements_ok, fit_ok, fits_ok, estimate_ok, estimate_questions, measure_questions};
 
 use elements::{ELEMENT, KeyedElement, element_at};
+pub use estimate::GivenEstimate;
 use fits::{ElementFit, FIT, fit_at};
-use refusals::{
-    REFUSED_CARRIER, REFUSED_COUNT, REFUSED_GIVEN, REFUSED_PLACES, REFUSED_RATE, REFUSED_SAMPLE,
-    REFUSED_WORK,
-};
+pub use refusals::Refusal;
 use row::{edge_step, step_blocks};
 
-// 1 to 3, which every call that is lent a recording asks first: the number of the first no, 0 where there is none.
-pub fn recording_no(iq: &[f32], fs: f64) -> u64
-    ensures { result ≡ first_no (recording_questions iq.now fs) }
+// A question: a no is the refusal that stands beside it.
+#[tactic(auto, unfolding(crate::specs::Questions::first_no))]
+pub fn ask(answer: bool, refusal: Refusal) -> Result<(), Refusal>
+    ensures { no_of result ≡ first_no (ask (number_of refusal) answer ∷ []) }
 {
-    if !row::rate_ok(fs) {
-        return REFUSED_RATE;
-    }
-    if !count_ok(iq.len()) {
-        return REFUSED_COUNT;
-    }
-    if !row::all_finite(iq) {
-        return REFUSED_SAMPLE;
-    }
-    0
+    if answer { Ok(()) } else { Err(refusal) }
+}
+
+// 1 to 3, which every call that is lent a recording asks first.
+#[tactic(auto, using(crate::proofs::Numbers::number_some), unfolding(crate::specs::Questions::first_no))]
+pub fn accept_recording(iq: &[f32], fs: f64) -> Result<(), Refusal>
+    ensures { no_of result ≡ first_no (recording_questions iq.now fs) }
+{
+    ask(row::rate_ok(fs), Refusal::Rate)?;
+    ask(count_ok(iq.len()), Refusal::Count)?;
+    ask(row::all_finite(iq), Refusal::Sample)
 }
 
 // 2: the f32 count is even and at most 2,097,152.
+#[tactic(auto, unfolding(crate::specs::Questions::count_ok))]
 pub fn count_ok(n: usize) -> bool
     ensures { result ≡ count_ok n }
 {
-    if n % 2 == 0 { n <= 2097152 } else { false }
+    n % 2 == 0 && n <= 2097152
 }
 
 // 4: the hint or the carrier is finite, of size at most fs/2.
+#[tactic(auto, unfolding(crate::specs::Questions::carrier_ok))]
 pub fn carrier_ok(fs: f64, hz: f64) -> bool
     ensures { result ≡ carrier_ok fs hz }
 {
-    if float::finite(hz) {
-        float::abs(hz) <= fs / 2.0
-    } else {
-        false
-    }
+    float::finite(hz) && float::abs(hz) <= fs / 2.0
 }
 
 // 5, of a list of found elements or of their fits: it has at least floor(B/2) places.
@@ -71,14 +71,11 @@ pub fn given_places_ok(count: usize, places: usize) -> bool
 pub fn row_places_ok(iq: &[f32], fs: f64, places: usize) -> bool
     ensures { result ≡ places_ok (row_length iq.now fs) places }
 {
-    let b = step_blocks(iq, fs);
-    if b <= 7 {
-        return true;
-    }
-    b - 7 <= places
+    step_blocks(iq, fs).saturating_sub(7) <= places
 }
 
 // B, of a recording that is lent as iq_len numbers, for whoever has to lend enough; 0 where question 1 refuses fs.
+#[tactic(auto, using(row::proofs::Steps::step_low), unfolding(crate::specs::Questions::blocks_for))]
 pub fn blocks_for(iq_len: usize, fs: f64) -> usize
     ensures { result ≡ blocks_for iq_len fs }
 {
@@ -105,6 +102,7 @@ pub fn class_places_ok(iq_len: usize, fs: f64, places: usize) -> bool
 }
 
 // 6: the work slice has at least 4 × B numbers.
+#[tactic(auto, using(crate::proofs::Accepted::work_is))]
 pub fn work_ok(iq: &[f32], fs: f64, len: usize) -> bool
     ensures { result ≡ work_ok (step_blocks iq.now fs) len }
 {
@@ -115,178 +113,99 @@ pub fn work_ok(iq: &[f32], fs: f64, len: usize) -> bool
 const LARGEST: f64 = 1606938044258990275541962092341162602522202993782792835301376.0;
 
 // 7: a given number is finite and of size at most 2^200.
+#[tactic(auto, unfolding(crate::specs::Questions::size_ok))]
 fn size_ok(x: f64) -> bool
     ensures { result ≡ size_ok x }
 {
-    if float::finite(x) {
-        float::abs(x) <= LARGEST
-    } else {
-        false
-    }
+    float::finite(x) && float::abs(x) <= LARGEST
 }
 
 // 7: a given up or down is a whole number from 0, below 2^20.
+
 fn position_ok(x: f64) -> bool
     ensures { result ≡ position_ok x }
 {
-    if x >= 0.0 {
-        if x < 1048576.0 {
-            return float::floor(x) == x;
-        }
-    }
-    false
+    x >= 0.0 && x < 1048576.0 && float::floor(x) == x
 }
 
 // 7, of an element.
+#[tactic(auto, unfolding(crate::specs::Questions::element_ok))]
 fn element_ok(e: KeyedElement) -> bool
     ensures { result ≡ element_ok e }
 {
-    if !size_ok(e.start) {
-        return false;
-    }
-    if !size_ok(e.end) {
-        return false;
-    }
-    if !position_ok(e.up) {
-        return false;
-    }
-    position_ok(e.down)
+    size_ok(e.start) && size_ok(e.end) && position_ok(e.up) && position_ok(e.down)
 }
 
 // 7, of given elements: the count fits its list, and every element is accepted.
 pub fn elements_ok(list: &[f64], count: usize) -> bool
     ensures { result ≡ elements_ok list.now count }
 {
-    if count > list.len() / ELEMENT {
-        return false;
-    }
-    for p in 0..count {
-        if !element_ok(element_at(list, p)) {
-            return false;
-        }
-    }
-    true
+    count <= list.len() / ELEMENT && (0..count).all(|p| element_ok(element_at(list, p)))
 }
 
 // 7, of a fit.
+#[tactic(auto, unfolding(crate::specs::Questions::fit_ok))]
 fn fit_ok(f: ElementFit) -> bool
     ensures { result ≡ fit_ok f }
 {
-    if !element_ok(f.element) {
-        return false;
-    }
     let gain = f.gain;
-    if !size_ok(gain.re) {
-        return false;
-    }
-    if !size_ok(gain.im) {
-        return false;
-    }
-    if !size_ok(f.slope_rad_per_sample) {
-        return false;
-    }
-    size_ok(f.ref_sample)
+    element_ok(f.element)
+        && size_ok(gain.re)
+        && size_ok(gain.im)
+        && size_ok(f.slope_rad_per_sample)
+        && size_ok(f.ref_sample)
 }
 
 // 7, of given fits: the count fits its list, and every fit is accepted.
 pub fn fits_ok(list: &[f64], count: usize) -> bool
     ensures { result ≡ fits_ok list.now count }
 {
-    if count > list.len() / FIT {
-        return false;
-    }
-    for p in 0..count {
-        if !fit_ok(fit_at(list, p)) {
-            return false;
-        }
-    }
-    true
+    count <= list.len() / FIT && (0..count).all(|p| fit_ok(fit_at(list, p)))
 }
 
 // 7, of a given estimate.
-pub fn estimate_ok(
-    carrier_hz: f64,
-    carrier_step_hz: f64,
-    elements: &[f64],
-    element_count: usize,
-    fits: &[f64],
-    fit_count: usize,
-) -> bool
-    ensures { result ≡ estimate_ok carrier_hz carrier_step_hz elements.now element_count fits.now fit_count }
+#[tactic(auto, unfolding(crate::specs::Questions::estimate_ok))]
+pub fn estimate_ok(given: &GivenEstimate) -> bool
+    ensures { let g = given.now in result
+        ≡ estimate_ok g.carrier_hz g.carrier_step_hz g.elements.now g.element_count g.fits.now g.fit_count }
 {
-    if !size_ok(carrier_hz) {
-        return false;
-    }
-    if !size_ok(carrier_step_hz) {
-        return false;
-    }
-    if !elements_ok(elements, element_count) {
-        return false;
-    }
-    fits_ok(fits, fit_count)
+    size_ok(given.carrier_hz)
+        && size_ok(given.carrier_step_hz)
+        && elements_ok(given.elements, given.element_count)
+        && fits_ok(given.fits, given.fit_count)
 }
 
-// 1 to 6, as `estimate_strong` and the run ask them: the number of the first no, 0 where there is none.
-pub fn estimate_no(
+// 1 to 6, as `estimate_strong` and the run ask them.
+#[tactic(auto, using(crate::proofs::Numbers::number_some), unfolding(crate::specs::Questions::first_no))]
+pub fn accept_estimate(
     iq: &[f32],
     fs: f64,
     hint_hz: f64,
     elements: usize,
     fits: usize,
     work: usize,
-) -> u64
-    ensures { result ≡ first_no (estimate_questions iq.now fs hint_hz elements fits work) }
+) -> Result<(), Refusal>
+    ensures { no_of result ≡ first_no (estimate_questions iq.now fs hint_hz elements fits work) }
 {
-    let no = recording_no(iq, fs);
-    if no != 0 {
-        return no;
-    }
-    if !carrier_ok(fs, hint_hz) {
-        return REFUSED_CARRIER;
-    }
-    if !find_places_ok(iq, fs, elements / ELEMENT) {
-        return REFUSED_PLACES;
-    }
-    if !find_places_ok(iq, fs, fits / FIT) {
-        return REFUSED_PLACES;
-    }
-    if !work_ok(iq, fs, work) {
-        return REFUSED_WORK;
-    }
-    0
+    accept_recording(iq, fs)?;
+    ask(carrier_ok(fs, hint_hz), Refusal::Carrier)?;
+    ask(find_places_ok(iq, fs, elements / ELEMENT), Refusal::Places)?;
+    ask(find_places_ok(iq, fs, fits / FIT), Refusal::Places)?;
+    ask(work_ok(iq, fs, work), Refusal::Work)
 }
 
-// 1, 2, 3, 6 and 7, as `residual_check` and `second_carrier_evidence` ask them: the number of the first no, 0 where
-// there is none.
-pub fn measure_no(
+// 1, 2, 3, 6 and 7, as `residual_check` and `second_carrier_evidence` ask them.
+#[tactic(auto, using(crate::proofs::Numbers::number_some), unfolding(crate::specs::Questions::first_no))]
+pub fn accept_measure(
     iq: &[f32],
     fs: f64,
-    carrier_hz: f64,
-    carrier_step_hz: f64,
-    elements: &[f64],
-    element_count: usize,
-    fits: &[f64],
-    fit_count: usize,
+    given: &GivenEstimate,
     work: usize,
-) -> u64
-    ensures { result ≡ first_no (measure_questions iq.now fs carrier_hz carrier_step_hz elements.now element_count fits.now fit_count work) }
+) -> Result<(), Refusal>
+    ensures { let g = given.now in no_of result
+        ≡ first_no (measure_questions iq.now fs g.carrier_hz g.carrier_step_hz g.elements.now g.element_count g.fits.now g.fit_count work) }
 {
-    let no = recording_no(iq, fs);
-    if no != 0 {
-        return no;
-    }
-    if !work_ok(iq, fs, work) {
-        return REFUSED_WORK;
-    }
-    if !estimate_ok(
-        carrier_hz,
-        carrier_step_hz,
-        elements,
-        element_count,
-        fits,
-        fit_count,
-    ) {
-        return REFUSED_GIVEN;
-    }
-    0
+    accept_recording(iq, fs)?;
+    ask(work_ok(iq, fs, work), Refusal::Work)?;
+    ask(estimate_ok(given), Refusal::Given)
 }

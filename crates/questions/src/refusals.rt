@@ -1,39 +1,35 @@
 // What a refusal's number means. 1 to 7 are 01's questions; 8 to 19 are those that document 02 adds, each asked from
 // the landing of its call on.
-pub const REFUSED_RATE: u64 = 1;
+ghost use Rattle.std.specs.Prelude.{◌≡◌};
+ghost use Rattle.questions.specs.Refusals.{number_of};
 
-pub const REFUSED_COUNT: u64 = 2;
+#[derive(Clone, Copy, Debug, PartialEq, Eq)]
+pub enum Refusal {
+    Rate = 1,
+    Count = 2,
+    Sample = 3,
+    Carrier = 4,
+    Places = 5,
+    Work = 6,
+    Given = 7,
+    Valley = 8,
+    Peak = 9,
+    Hints = 10,
+    Answers = 11,
+    Records = 12,
+    Evidence = 13,
+    Tray = 14,
+    Reference = 15,
+    Unit = 16,
+    Order = 17,
+    Text = 18,
+    Positions = 19,
+}
 
-pub const REFUSED_SAMPLE: u64 = 3;
+impl From<Refusal> for u64 {
+    ghost from_gives = { λ refusal number. number ≡ number_of refusal };
 
-pub const REFUSED_CARRIER: u64 = 4;
-
-pub const REFUSED_PLACES: u64 = 5;
-
-pub const REFUSED_WORK: u64 = 6;
-
-pub const REFUSED_GIVEN: u64 = 7;
-
-pub const REFUSED_VALLEY: u64 = 8;
-
-pub const REFUSED_PEAK: u64 = 9;
-
-pub const REFUSED_HINTS: u64 = 10;
-
-pub const REFUSED_ANSWERS: u64 = 11;
-
-pub const REFUSED_RECORDS: u64 = 12;
-
-pub const REFUSED_EVIDENCE: u64 = 13;
-
-pub const REFUSED_TRAY: u64 = 14;
-
-pub const REFUSED_REFERENCE: u64 = 15;
-
-pub const REFUSED_UNIT: u64 = 16;
-
-pub const REFUSED_ORDER: u64 = 17;
-
-pub const REFUSED_TEXT: u64 = 18;
-
-pub const REFUSED_POSITIONS: u64 = 19;
+    fn from(refusal: Refusal) -> u64 {
+        refusal as u64
+    }
+}

@@ -1,5 +1,6 @@
 -- A percentile is one of the list's numbers: what holds of each of them holds of it (`percentile_keeps`). Assumes
 -- nothing.
+use Rattle.std.proofs.Common.{Some}
 use Prim.Native.Nat.{ℕ, suc, ◌<◌}
 use native.Mathlib.Omega.{arith}
 use mathlib.Core.Path.{◌≡◌, sym, subst}
@@ -9,7 +10,6 @@ use native.Mathlib.Nat.{zero-lt-suc, lt_of_lt_of_le, le_of_eq}
 use lib.Ieee.{Float, nan}
 use Rattle.rank.specs.Order.{sorted}
 use Rattle.rank.specs.Select.{rank_of, percentile_of}
-use Rattle.rank.specs.declared.Percentile.TheVariants.{Value}
 use Rattle.rank.proofs.Sorted.{Every, every_at, sorted_every, sorted_length, rank_lt}
 
 -- what holds at every index below the length
@@ -17,7 +17,7 @@ pub every_of : (P : Float → Type 0) (l : List Float) → ((i : ℕ) → i < le
 every_of P [] h = tt
 every_of P (x ∷ xs) h = (h 0 (zero-lt-suc (length xs)), every_of P xs (λ (i : ℕ). λ b. h (suc i) (omega arith)))
 
-pub percentile_keeps : (P : Float → Type 0) (l : List Float) (p v : Float) → ((i : ℕ) → i < length l → P (get_or l i nan)) → percentile_of l p ≡ Value v → P v
+pub percentile_keeps : (P : Float → Type 0) (l : List Float) (p v : Float) → ((i : ℕ) → i < length l → P (get_or l i nan)) → percentile_of l p ≡ Some v → P v
 unfolding percentile_of
 percentile_keeps P [] p v h e = let z : ◌≡◌ {A = ℕ} 0 1 = cc in absurd (omega arith)
 percentile_keeps P (x ∷ xs) p v h e =

@@ -4,9 +4,9 @@
 -- Ordinals    ordinals are in `total_cmp` order: `precedes_ordinal`; each gives its value back: `value_ordinal`,
 --             `ordinal_injective`
 -- Counted     cells of ordinals and their histogram: `below_next`, `below_split`, `cell_split`, `histogram_turn`,
---             `histogram_sum`; one digit more: `next_digit`, `within_turn`; the one that is left: `within_one`
+--             `histogram_sum`; one digit more: `next_digit`, `within_turn`; the one that is left: `found`, `within_one`
 -- Narrowed    a cell narrowed to the ends of its ordinals has the same ordinals: `narrowed`; a rank in it stays:
---             `rank_narrowed`; the ends, ordinal by ordinal: `between_none`, `between_turn`
+--             `rank_narrowed`
 -- Sorted      the value at a rank of the sorted list is the one with so many before it: `sorted_counts`,
 --             `counts_unique`, `percentile_counts`, `percentile_none`; what holds of each number: `Every`, `every_at`,
 --             `sorted_every`; `held`: each is an f64; `rank_lt`

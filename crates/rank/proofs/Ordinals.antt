@@ -8,6 +8,7 @@ use native.Mathlib.Nat.{zero-add, eq-or-lt_of_le, mod-eq_of_lt}
 use native.Mathlib.Decide.{dec_lt}
 use native.Mathlib.Omega.{arith}
 use borrow.Author.Tests.{lt-ltb, le-ltb, ne_eqb}
+use Rattle.std.proofs.lemmas.Bool.Decides.{nat_tests}
 use lib.Dec.{T, ltb, eqb}
 use lib.Ieee.{Float, nan, inf, fin, Format, lt, eq, odd, neg, of_fields, of_bits, to_bits, below, level, binary64, fits, is_nan, nan_bits, prec, low, ones, hid}
 use lib.Ieee.Exact.{HasValue}
@@ -19,7 +20,7 @@ use Rattle.float.proofs.Patterns.{of_bits_fields}
 use Rattle.float.proofs.Narrowing.{magnitude_le}
 use Rattle.rank.specs.Order.{precedes}
 use Rattle.rank.specs.Inner.{ordinal_bits, ordinal_of, value_of, Ordinal}
-use Rattle.rank.proofs.Patterns.{top, Pattern, keeps_ltb, lt_pattern, eq_pattern, zero_pattern}
+use Rattle.rank.proofs.Patterns.{top, Pattern, lt_pattern, eq_pattern, zero_pattern}
 
 -- ---- a pattern with the sign is that of the negated value
 neg_odd : (d q k l : ℕ) → odd d true q k l ≡ neg (odd d false q k l)
@@ -152,11 +153,7 @@ is_ordinal x f = go x (view x f)
     go x (signed true p m h k v) = inr (omega arith, omega arith)
 
 pub ordinal_lt : (x : Float) → T (fits binary64 x) → ordinal_of x < 2 ^ 64
-ordinal_lt x f = go (is_ordinal x f)
-  where
-    go : Ordinal (ordinal_of x) → ordinal_of x < 2 ^ 64
-    go (inl e) = omega arith
-    go (inr h) = omega arith
+ordinal_lt x f = elim (is_ordinal x f) [ inl e ↦ omega arith | inr h ↦ omega arith ]
 
 pub ordinal_injective : (x y : Float) → T (fits binary64 x) → T (fits binary64 y) → ordinal_of x ≡ ordinal_of y → x ≡ y
 ordinal_injective x y f g e = sym (value_ordinal x f) ∙ ap value_of e ∙ value_ordinal y g
@@ -165,37 +162,8 @@ ordinal_injective x y f g e = sym (value_ordinal x f) ∙ ap value_of e ∙ valu
 abbrev ordered : Bool → ℕ → Bool → ℕ → Bool
 ordered s p t q = below s p t q || (level s p t q && (s && eqb p 0) && not (t && eqb q 0)) || false
 
--- what the middle of `ordered` is where the first value is no −0, or the second is one too
-no_middle : (x l w : Bool) → (x || (l && false && w) || false) ≡ x
-no_middle true l w = refl
-no_middle false true w = refl
-no_middle false false w = refl
-
-middle : (p q : ℕ) → (level true p true q && eqb p 0 && not (eqb q 0)) ≡ false
-middle p q = go (dec_lt 0 p) (dec_lt 0 q)
-  where
-    last : (l w : Bool) → (l && false && w) ≡ false
-    last true w = refl
-    last false w = refl
-
-    go : Dec (0 < p) → Dec (0 < q) → (level true p true q && eqb p 0 && not (eqb q 0)) ≡ false
-    go (yes h) k = rw (ne_eqb p 0 (omega arith)) (last (eqb p q && true) (not (eqb q 0)))
-    go (no h) (yes k) = rw (ne_eqb p q (omega arith))
-    go (no h) (no k) = let a : p ≡ 0 = omega arith in let b : q ≡ 0 = omega arith in rw (a, b)
-
 order : (s : Bool) (p : ℕ) (t : Bool) (q : ℕ) → p ≤ top → q ≤ top → ordered s p t q ≡ ltb (sign_ordinal s p) (sign_ordinal t q)
-order false p false q h k = no_middle (ltb p q) (level false p false q) true ∙ sym (keeps_ltb (λ z. z + 2 ^ 63) (λ (a b : ℕ) (l : a < b). omega arith) p q)
-order false p true q h k = no_middle false (level false p true q) (not (eqb q 0)) ∙ sym (le-ltb (p + 2 ^ 63) (2 ^ 63 - 1 - q) (omega arith))
-order true p false q h k = go (dec_lt 0 (p + q)) ∙ sym (lt-ltb (2 ^ 63 - 1 - p) (q + 2 ^ 63) (omega arith))
-  where
-    go : Dec (0 < p + q) → ordered true p false q ≡ true
-    go (yes l) = rw (lt-ltb 0 (p + q) l)
-    go (no l) = let a : p ≡ 0 = omega arith in let b : q ≡ 0 = omega arith in rw (a, b)
-order true p true q h k = ap (λ (z : Bool). ltb q p || z || false) (middle p q) ∙ no_middle (ltb q p) false true ∙ go (dec_lt q p)
-  where
-    go : Dec (q < p) → ltb q p ≡ ltb (2 ^ 63 - 1 - p) (2 ^ 63 - 1 - q)
-    go (yes l) = lt-ltb q p l ∙ sym (lt-ltb (2 ^ 63 - 1 - p) (2 ^ 63 - 1 - q) (omega arith))
-    go (no l) = le-ltb q p (omega arith) ∙ sym (le-ltb (2 ^ 63 - 1 - p) (2 ^ 63 - 1 - q) (omega arith))
+order s p t q h k = grind (arith, nat_tests)
 
 is_number : (x : Float) (s : Bool) (p : ℕ) → Pattern x s p → is_nan x ≡ false
 unfolding is_nan
@@ -216,8 +184,7 @@ after_nan (inf s) = refl
 after_nan (fin s m e) = refl
 
 sign_ordinal_lt : (s : Bool) (p : ℕ) → p ≤ top → sign_ordinal s p < 2 ^ 64 - 1
-sign_ordinal_lt false p h = omega arith
-sign_ordinal_lt true p h = omega arith
+sign_ordinal_lt s p h = grind (arith, nat_tests)
 
 by_patterns : (x y : Float) (s t : Bool) (p q : ℕ) → Pattern x s p → Pattern y t q → precedes x y ≡ ordered s p t q
 unfolding precedes
@@ -237,10 +204,7 @@ number_bits : (n : ℕ) → n % 2 ^ 63 ≤ top → T (not (nan_bits binary64 n))
 number_bits n h = subst (λ (b : Bool). T (not b)) (sym (nan_bits_above binary64 n)) (le→nltb top (n % 2 ^ 63) h)
 
 pub low_number : (k : ℕ) → Ordinal k → k < 2 ^ 63 → T (not (nan_bits binary64 (2 ^ 64 - 1 - k)))
-low_number k (inl e) h = absurd (never k e h)
-  where
-    never : (k : ℕ) → k ≡ 2 ^ 64 - 1 → k < 2 ^ 63 → ⊥
-    never k e h = omega arith
+low_number k (inl e) h = absurd (omega arith)
 low_number k (inr r) h = number_bits (2 ^ 64 - 1 - k) (omega arith)
 
 pub high_number : (k : ℕ) → Ordinal k → (k ≡ 2 ^ 64 - 1 → ⊥) → T (not (nan_bits binary64 (k - 2 ^ 63)))

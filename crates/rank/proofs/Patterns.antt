@@ -1,14 +1,16 @@
 -- The order of the values is the order of their bit patterns, with the sign apart: `lt_pattern`, `eq_pattern`,
 -- `zero_pattern`. Assumes nothing.
 use mathlib.Core.Path.{◌≡◌, refl, sym, ap, ◌∙◌, subst}
-use mathlib.Core.Logic.{◌⊎◌, inl, inr}
+use mathlib.Core.Logic.{inl, inr}
 use mathlib.Core.Bool.{Bool, true, false, not, ◌&&◌, ◌||◌, beq}
 use Prim.Native.Nat.{ℕ, zero, suc, ◌+◌, ◌-◌, ◌*◌, ◌/◌, ◌%◌, ◌^◌, ◌≤◌, ◌<◌, zero-le}
-use native.Mathlib.Nat.{le_of_lt, lt_trans, le_of_suc-le-suc, eq-or-lt_of_le, mul_comm, mul_assoc, add-mul, mul-pos, mul-lt-mul_of_pos_right, two-pow-succ, zero-lt-suc, zero-mul}
+use native.Mathlib.Nat.{lt_trans, le_of_suc-le-suc, eq-or-lt_of_le, mul_comm, mul_assoc, add-mul, mul-pos, mul-lt-mul_of_pos_right, two-pow-succ, zero-lt-suc, zero-mul}
 use native.Mathlib.Decide.{dec_lt}
 use native.Mathlib.Omega.{arith}
-use borrow.Author.Tests.{lt-ltb, le-ltb, eq-eqb, ne_eqb}
+use borrow.Author.Tests.{eq-eqb, ne_eqb}
 use native.Mathlib.Numerals.{add-one}
+use Rattle.std.proofs.Math.Bool.{and-true, and-false}
+use Rattle.std.proofs.lemmas.Bool.Decides.{nat_tests}
 use lib.Dec.{ltb, eqb, lit<}
 use lib.Pow.{pow_pos}
 use lib.IntN.{ℤ}
@@ -21,26 +23,10 @@ use Rattle.float.proofs.Modulo.{counted_low, counted_high}
 -- ---- a function that grows strictly keeps `<` and `=`
 module _ (f : ℕ → ℕ) (grows : (a b : ℕ) → a < b → f a < f b) where
   pub keeps_ltb : (a b : ℕ) → ltb (f a) (f b) ≡ ltb a b
-  keeps_ltb a b = go (dec_lt a b)
-    where
-      go : Dec (a < b) → ltb (f a) (f b) ≡ ltb a b
-      go (yes h) = lt-ltb (f a) (f b) (grows a b h) ∙ sym (lt-ltb a b h)
-      go (no h) = le-ltb (f a) (f b) (over (eq-or-lt_of_le (flip h))) ∙ sym (le-ltb a b (flip h))
-        where
-          flip : (a < b → ⊥) → b ≤ a
-          flip h = omega arith
-
-          over : (b ≡ a) ⊎ (b < a) → f b ≤ f a
-          over (inl e) = subst (λ (x : ℕ). f b ≤ f x) e (omega arith)
-          over (inr l) = le_of_lt (grows b a l)
+  keeps_ltb a b = let h = grows a b in let k = grows b a in grind (arith, nat_tests)
 
   pub keeps_eqb : (a b : ℕ) → eqb (f a) (f b) ≡ eqb a b
-  keeps_eqb a b = go (dec_lt a b) (dec_lt b a)
-    where
-      go : Dec (a < b) → Dec (b < a) → eqb (f a) (f b) ≡ eqb a b
-      go (yes h) k = let g : f a < f b = grows a b h in ne_eqb (f a) (f b) (omega arith) ∙ sym (ne_eqb a b (omega arith))
-      go (no h) (yes k) = let g : f b < f a = grows b a k in ne_eqb (f a) (f b) (omega arith) ∙ sym (ne_eqb a b (omega arith))
-      go (no h) (no k) = let e : a ≡ b = omega arith in eq-eqb (f a) (f b) (ap f e) ∙ sym (eq-eqb a b e)
+  keeps_eqb a b = let h = grows a b in let k = grows b a in grind (arith, nat_tests)
 
 times : (k : ℕ) → 0 < k → (a b : ℕ) → a < b → a * k < b * k
 times k K a b h = mul-lt-mul_of_pos_right h K
@@ -65,14 +51,6 @@ none c k = omega arith
 
 both : (x y c a b k : ℕ) → x * c ≡ a * k → y * c ≡ b * k → (x + y) * c ≡ (a + b) * k
 both x y c a b k p q = rw (add-mul x y c, p, q, ← add-mul)
-
-and-true : (s : Bool) → s && true ≡ s
-and-true false = refl
-and-true true = refl
-
-and-false : (s : Bool) → s && false ≡ false
-and-false false = refl
-and-false true = refl
 
 nought : (a u d c : ℕ) → 0 < d → 0 * u * c ≡ a * d → a ≡ 0
 nought zero u d c D p = refl
@@ -130,10 +108,7 @@ next p = go (dec_lt p (2 ^ 52 - 1)) (dec_lt p (2 ^ 52)) (dec_lt (p % 2 ^ 52) (2 
         rw (counted_high p (omega arith), counted_high (p + 1) (omega arith), r, q, o) (carry (p / 2 ^ 52 - 1))
 
 pub counted_grows : (p q : ℕ) → p < q → counted p < counted q
-counted_grows p zero h = absurd (never h)
-  where
-    never : p < 0 → ⊥
-    never h = omega arith
+counted_grows p zero h = absurd (omega arith)
 counted_grows p (suc q) h = elim (eq-or-lt_of_le (le_of_suc-le-suc h)) [ inl e ↦ subst (λ (x : ℕ). counted x < counted (suc q)) (sym e) (after q) | inr l ↦ lt_trans (counted_grows p q l) (after q) ]
   where
     after : (q : ℕ) → counted q < counted (suc q)
@@ -150,28 +125,16 @@ Pattern (fin t m e) s p = (t ≡ s) × (p < top) × (m * up e * 2 ^ 1074 ≡ cou
 
 -- an infinity and a finite value, a finite value and an infinity
 over_top : (s t : Bool) (p : ℕ) → p < top → s ≡ below s top t p
-over_top false false p h = sym (le-ltb top p (le_of_lt h))
-over_top false true p h = refl
-over_top true false p h = sym (lt-ltb 0 (top + p) (omega arith))
-over_top true true p h = sym (lt-ltb p top h)
+over_top s t p h = grind (arith, nat_tests)
 
 under_top : (s t : Bool) (p : ℕ) → p < top → not t ≡ below s p t top
-under_top false false p h = sym (lt-ltb p top h)
-under_top false true p h = refl
-under_top true false p h = sym (lt-ltb 0 (p + top) (omega arith))
-under_top true true p h = sym (le-ltb top p (le_of_lt h))
+under_top s t p h = grind (arith, nat_tests)
 
 tops : (s t : Bool) → (s && not t) ≡ below s top t top
-tops false false = refl
-tops false true = refl
-tops true false = refl
-tops true true = refl
+tops s t = grind (arith, nat_tests)
 
 same_tops : (s t : Bool) → beq s t ≡ level s top t top
-same_tops false false = refl
-same_tops false true = refl
-same_tops true false = refl
-same_tops true true = refl
+same_tops s t = grind (arith, nat_tests)
 
 counted_none : counted 0 ≡ 0
 counted_none = counted_low 0 (lit< tt)
@@ -179,25 +142,26 @@ counted_none = counted_low 0 (lit< tt)
 counted_zero : (p : ℕ) → eqb (counted p) 0 ≡ eqb p 0
 counted_zero p = ap (λ (z : ℕ). eqb (counted p) z) (sym counted_none) ∙ keeps_eqb counted counted_grows p 0
 
-counted_below : (s : Bool) (p : ℕ) (t : Bool) (q : ℕ) → below s (counted p) t (counted q) ≡ below s p t q
-counted_below false p false q = keeps_ltb counted counted_grows p q
-counted_below false p true q = refl
-counted_below true p false q = go (dec_lt 0 (p + q))
-  where
-    least : (p : ℕ) → p ≤ counted p
-    least zero = zero-le
-    least (suc p) = let h : counted p < counted (suc p) = counted_grows p (suc p) (omega arith) in omega (arith, least p)
+least : (p : ℕ) → p ≤ counted p
+least zero = zero-le
+least (suc p) = let h : counted p < counted (suc p) = counted_grows p (suc p) (omega arith) in omega (arith, least p)
 
-    go : Dec (0 < p + q) → ltb 0 (counted p + counted q) ≡ ltb 0 (p + q)
-    go (yes h) = lt-ltb 0 (counted p + counted q) (omega (arith, least p, least q)) ∙ sym (lt-ltb 0 (p + q) h)
-    go (no h) =
-        let a : p ≡ 0 = omega arith in
-        let b : q ≡ 0 = omega arith in
-        le-ltb 0 (counted p + counted q) (omega (arith, ap counted a ∙ counted_none, ap counted b ∙ counted_none)) ∙ sym (le-ltb 0 (p + q) (omega arith))
-counted_below true p true q = keeps_ltb counted counted_grows q p
+counted_below : (s : Bool) (p : ℕ) (t : Bool) (q : ℕ) → below s (counted p) t (counted q) ≡ below s p t q
+counted_below s p t q =
+    let a = least p in
+    let b = least q in
+    let g = counted_grows p q in
+    let h = counted_grows q p in
+    let z = counted_none in
+    grind (arith, nat_tests)
 
 counted_level : (s : Bool) (p : ℕ) (t : Bool) (q : ℕ) → level s (counted p) t (counted q) ≡ level s p t q
-counted_level s p t q = ap (λ (z : Bool). z && (beq s t || eqb (counted p) 0)) (keeps_eqb counted counted_grows p q) ∙ ap (λ (z : Bool). eqb p q && (beq s t || z)) (counted_zero p)
+counted_level s p t q =
+    let a = least p in
+    let g = counted_grows p q in
+    let h = counted_grows q p in
+    let z = counted_none in
+    grind (arith, nat_tests)
 
 pub lt_pattern : (x y : Float) (s t : Bool) (p q : ℕ) → Pattern x s p → Pattern y t q → lt x y ≡ below s p t q
 unfolding lt

@@ -2,6 +2,7 @@
 -- before it, and more not after it (`sorted_counts`); and only one f64 has that property (`counts_unique`).
 -- So counting finds the percentile (`percentile_counts`), and so does the ordinal that the counts of ordinals select
 -- (`selected`). Assumes nothing.
+use Rattle.std.proofs.Common.{Some, None}
 use mathlib.Core.Path.{◌≡◌, refl, sym, ap, ◌∙◌, subst}
 use mathlib.Core.Bool.{Bool, true, false, not, cond}
 use mathlib.Core.List.{List, [], ◌∷◌}
@@ -10,6 +11,7 @@ use native.Mathlib.Nat.{le_of_lt, le_trans, le_of_suc-le-suc, div-one, zero-add}
 use native.Mathlib.Decide.{dec_lt}
 use native.Mathlib.Omega.{arith}
 use borrow.Author.Tests.{lt-ltb, le-ltb, ltb-true, ltb-false, not-true}
+use Rattle.std.proofs.lemmas.Bool.Decides.{nat_tests}
 use lib.Dec.{T, ltb}
 use lib.ListN.{length, get_or}
 use lib.Ieee.{Float, nan, binary64, fits}
@@ -17,10 +19,9 @@ use Rattle.rank.specs.Order.{precedes, insert, sorted, before, up_to}
 use Rattle.lists.specs.Count.{count_to}
 use Rattle.rank.specs.Select.{rank_of, percentile_of}
 use Rattle.rank.specs.Inner.{ordinal_of, ordinal_at, below, RankIn, Selected, Ordinal, value_of}
-use Rattle.rank.specs.declared.Percentile.TheVariants.{Value, Nothing}
 use Rattle.rank.proofs.Ordinals.{precedes_ordinal, ordinal_injective, value_ordinal, is_ordinal}
 use Rattle.lists.proofs.Count.{bit, count_cong, count_le}
-use Rattle.rank.proofs.Counted.{below_next}
+use Rattle.rank.proofs.Counted.{below_next, count_front}
 
 -- ---- what holds of every element
 abbrev pub Every : (Float → Type 0) → List Float → Type 0
@@ -37,10 +38,7 @@ held (x ∷ xs) h = (h 0, held xs (λ (i : ℕ). h (suc i)))
 
 module _ (P : Float → Type 0) where
   pub every_at : (l : List Float) → Every P l → (i : ℕ) → i < length l → P (get_or l i nan)
-  every_at [] h i b = absurd (never b)
-    where
-      never : i < 0 → ⊥
-      never b = omega arith
+  every_at [] h i b = absurd (omega arith)
   every_at (x ∷ xs) h zero b = h.0
   every_at (x ∷ xs) h (suc i) b = every_at xs h.1 i (le_of_suc-le-suc b)
 
@@ -68,12 +66,9 @@ unfolding insert tallied
 insert_tallied p x [] = refl
 insert_tallied p x (y ∷ ys) = go (precedes x y) (insert_tallied p x ys)
   where
-    swap : (a b c : ℕ) → b + (a + c) ≡ a + (b + c)
-    swap a b c = omega arith
-
     go : (b : Bool) → tallied p (insert x ys) ≡ bit (p x) + tallied p ys → tallied p (cond b (x ∷ y ∷ ys) (y ∷ insert x ys)) ≡ bit (p x) + (bit (p y) + tallied p ys)
     go true e = refl
-    go false e = ap (λ (z : ℕ). bit (p y) + z) e ∙ swap (bit (p x)) (bit (p y)) (tallied p ys)
+    go false e = omega (arith, e)
 
 sorted_tallied : (p : Float → Bool) (l : List Float) → tallied p (sorted l) ≡ tallied p l
 unfolding sorted tallied
@@ -93,12 +88,6 @@ pub sorted_length : (l : List Float) → length (sorted l) ≡ length l
 unfolding sorted
 sorted_length [] = refl
 sorted_length (x ∷ xs) = insert_length x (sorted xs) ∙ ap suc (sorted_length xs)
-
--- along the list and by its indices
-count_front : (f : ℕ → Bool) (n : ℕ) → count_to f (suc n) ≡ bit (f 0) + count_to (λ i. f (suc i)) n
-unfolding count_to
-count_front f zero = omega arith
-count_front f (suc n) = ap (λ (z : ℕ). z + bit (f (suc n))) (count_front f n) ∙ omega arith
 
 tallied_count : (p : Float → Bool) (l : List Float) → tallied p l ≡ count_to (λ i. p (get_or l i nan)) (length l)
 unfolding count_to tallied
@@ -140,10 +129,7 @@ none_below k (x ∷ xs) f = rw (le-ltb (ordinal_of x) k f.0, zero-add) (none_bel
 ascending_at : (l : List Float) → Ascending l → (r : ℕ) → r < length l →
     (tallied (λ y. ltb (ordinal_of y) (ordinal_of (get_or l r nan))) l ≤ r) × (r < tallied (λ y. not (ltb (ordinal_of (get_or l r nan)) (ordinal_of y))) l)
 unfolding tallied
-ascending_at [] h r b = absurd (never b)
-  where
-    never : r < 0 → ⊥
-    never b = omega arith
+ascending_at [] h r b = absurd (omega arith)
 ascending_at (x ∷ xs) h zero b =
     let s : ltb (ordinal_of x) (ordinal_of x) ≡ false = le-ltb (ordinal_of x) (ordinal_of x) (omega arith) in
     (rw (s, none_below (ordinal_of x) xs h.0) (omega arith), rw s (omega arith))
@@ -154,8 +140,7 @@ ascending_at (x ∷ xs) h (suc r) b =
     (step (ltb (ordinal_of x) k) i.0, rw s (omega (arith, i.1)))
   where
     step : (b : Bool) {t : ℕ} → t ≤ r → bit b + t ≤ suc r
-    step true h = omega arith
-    step false h = omega arith
+    step b h = grind (arith, nat_tests)
 
 -- ---- the ordinal at a rank, by counts of ordinals
 abbrev Ranked : (ℕ → ℕ) → ℕ → ℕ → ℕ → Type 0
@@ -215,36 +200,26 @@ pub rank_lt : (n : ℕ) (p : Float) → 0 < n → rank_of n p < n
 unfolding rank_of
 rank_lt n p h = omega arith
 
-pub percentile_none : (l : List Float) (p : Float) → length l ≡ 0 → Nothing ≡ percentile_of l p
+pub percentile_none : (l : List Float) (p : Float) → length l ≡ 0 → None ≡ percentile_of l p
 unfolding percentile_of
 percentile_none [] p e = refl
-percentile_none (x ∷ xs) p e = absurd (never (length xs) e)
-  where
-    never : (n : ℕ) → suc n ≡ 0 → ⊥
-    never n e = omega arith
+percentile_none (x ∷ xs) p e = absurd (omega arith)
 
-pub percentile_some : (l : List Float) (p : Float) → 0 < length l → Value (get_or (sorted l) (rank_of (length l) p) nan) ≡ percentile_of l p
+pub percentile_some : (l : List Float) (p : Float) → 0 < length l → Some (get_or (sorted l) (rank_of (length l) p) nan) ≡ percentile_of l p
 unfolding percentile_of
-percentile_some [] p h = absurd (never h)
-  where
-    never : 0 < 0 → ⊥
-    never h = omega arith
+percentile_some [] p h = absurd (omega arith)
 percentile_some (x ∷ xs) p h = refl
 
-pub percentile_counts : (l : List Float) (p x : Float) → Held l → T (fits binary64 x) → 0 < length l → before l x ≤ rank_of (length l) p → rank_of (length l) p < up_to l x → percentile_of l p ≡ Value x
+pub percentile_counts : (l : List Float) (p x : Float) → Held l → T (fits binary64 x) → 0 < length l → before l x ≤ rank_of (length l) p → rank_of (length l) p < up_to l x → percentile_of l p ≡ Some x
 percentile_counts l p x h f b i j =
     let r = rank_of (length l) p in
     let s : r < length l = rank_lt (length l) p b in
     let c = sorted_counts l h r s in
-    sym (percentile_some l p b) ∙ ap Value (counts_unique l h r (get_or (sorted l) r nan) x (sorted_held l h r s) f c.0 c.1 i j)
+    sym (percentile_some l p b) ∙ ap Some (counts_unique l h r (get_or (sorted l) r nan) x (sorted_held l h r s) f c.0 c.1 i j)
 
 -- ---- from the cell of one ordinal
 up_to_lem : (x k : ℕ) → ltb x (k + 1) ≡ not (ltb k x)
-up_to_lem x k = go (dec_lt k x)
-  where
-    go : Dec (k < x) → ltb x (k + 1) ≡ not (ltb k x)
-    go (yes h) = le-ltb x (k + 1) (omega arith) ∙ sym (ap not (lt-ltb k x h))
-    go (no h) = lt-ltb x (k + 1) (omega arith) ∙ sym (ap not (le-ltb k x (omega arith)))
+up_to_lem x k = grind (arith, nat_tests)
 
 within_ranked : (l : List Float) (r k left : ℕ) → RankIn l 1 r k left → Ranked (ordinal_at l) (length l) r k
 unfolding below
@@ -253,12 +228,12 @@ within_ranked l r k left w =
     let b = count_cong (λ i. ltb (ordinal_at l i / 1) (k + 1)) (λ i. not (ltb k (ordinal_at l i))) (length l) (λ (i : ℕ) (_ : i < length l). ap (λ (x : ℕ). ltb x (k + 1)) (div-one (ordinal_at l i)) ∙ up_to_lem (ordinal_at l i) k) in
     (omega (arith, a, w.under), omega (arith, b, w.under, w.inside, below_next (ordinal_at l) (length l) 1 k))
 
-pub selected : (l : List Float) → Held l → (r k left : ℕ) → r < length l → RankIn l 1 r k left → Selected l r k
-selected l h r k left b w = record { same = ranked_unique (ordinal_at l) (length l) r k (ordinal_of (get_or (sorted l) r nan)) (within_ranked l r k left w) (sorted_ranked l h r b); held = sorted_held l h r b }
+pub selected : (l : List Float) → ((i : ℕ) → T (fits binary64 (get_or l i nan))) → {r k left : ℕ} → r < length l → RankIn l 1 r k left → Selected l r k
+selected l f {r} {k} {left} b w = let h = held l f in record { same = ranked_unique (ordinal_at l) (length l) r k (ordinal_of (get_or (sorted l) r nan)) (within_ranked l r k left w) (sorted_ranked l h r b); held = sorted_held l h r b }
 
 pub selected_ordinal : {l : List Float} {r k : ℕ} → Selected l r k → Ordinal k
 selected_ordinal {l} {r} s = subst Ordinal (sym s.same) (is_ordinal (get_or (sorted l) r nan) s.held)
 
-pub percentile_selected : (l : List Float) (p : Float) (r k : ℕ) (v : Float) → 0 < length l → r ≡ rank_of (length l) p → Selected l r k → v ≡ value_of k → Value v ≡ percentile_of l p
+pub percentile_selected : (l : List Float) (p : Float) (r k : ℕ) (v : Float) → 0 < length l → r ≡ rank_of (length l) p → Selected l r k → v ≡ value_of k → Some v ≡ percentile_of l p
 percentile_selected l p r k v h e s i =
-    ap Value (i ∙ ap value_of s.same ∙ value_ordinal (get_or (sorted l) r nan) s.held ∙ ap (λ (j : ℕ). get_or (sorted l) j nan) e) ∙ percentile_some l p h
+    ap Some (i ∙ ap value_of s.same ∙ value_ordinal (get_or (sorted l) r nan) s.held ∙ ap (λ (j : ℕ). get_or (sorted l) j nan) e) ∙ percentile_some l p h

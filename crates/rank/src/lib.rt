@@ -2,10 +2,3 @@
 #![tactic(auto)]
 
 pub mod select;
-
-// `percentile`'s answer: the value, or none for an empty list.
-#[derive(Clone, Copy)]
-pub enum Percentile {
-    Value(f64),
-    Nothing,
-}

@@ -1,9 +1,6 @@
-// Each call on a stored case, in slices of the lengths that the case names: whether all that it answers and leaves is
-// what is stored, and its refusal's number.
-use cancel::{
-    Estimate, EstimateAnswer, EvidenceAnswer, FindAnswer, FitAnswer, Found, ResidualAnswer,
-    RunAnswer, RunFigures, SecondCarrierEvidence, SubtractAnswer,
-};
+// Each call on a stored case: whether all that it answers and leaves is what is stored, and the number that refused it.
+use crate::cases::{Case, Lent};
+use cancel::{Refusal, RunFigures, SecondCarrierEvidence};
 use elements::ELEMENT;
 use figures::{
     case_of, given_offset, of_estimate, of_evidence, of_find, of_fit, of_hypothesis, of_residual,
@@ -11,7 +8,7 @@ use figures::{
 };
 use fits::FIT;
 use stored::answer::{
-    Answered, Ran, figured_same, filled_same, kept_same, left_same, refused_same,
+    Answered, Found, Ran, figured_same, filled_same, kept_same, left_same, refused_same,
 };
 use stored::asked::{Asked, figures_from};
 use stored::equal::{changed, same_figures};
@@ -23,182 +20,101 @@ const FIGURES: usize = 88;
 const CLASSIFY_ANSWER: usize = 40;
 
 fn done(equal: bool) -> Answered {
-    Answered { equal, no: 0 }
-}
-
-fn refused(a: Asked, no: u64, elements: &[f64], fits: &[f64], work: &[f64]) -> Answered {
     Answered {
-        equal: refused_same(a.no, no, elements, fits, work),
-        no,
+        equal,
+        refused: None,
     }
 }
 
-fn figured(a: Asked, answer: &[f64], body: &[u8]) -> bool {
-    figured_same(a.no, answer, figures_from(body, FIGURES))
-}
-
-fn found(a: Asked, f: Found, body: &[u8], elements: &[f64], stored: &[f64]) -> bool {
-    let answer = of_find(f);
-    if !figured(a, &answer, body) {
-        return false;
-    }
-    filled_same(elements, ELEMENT, stored, a.listed)
-}
-
-pub fn find(
-    a: Asked,
-    body: &[u8],
-    iq: &[f32],
-    stored_elements: &[f64],
-    elements: &mut [f64],
-    work: &mut [f64],
-) -> Answered {
-    match cancel::find_elements(iq, a.fs, a.hint_hz, elements, work) {
-        FindAnswer::Refused(no) => refused(a, no, elements, elements, work),
-        FindAnswer::Done(f) => done(found(a, f, body, elements, stored_elements)),
+fn refused(a: Asked, no: Refusal, elements: &[f64], fits: &[f64], work: &[f64]) -> Answered {
+    let no = u64::from(no);
+    Answered {
+        equal: refused_same(a.refused, no, elements, fits, work),
+        refused: Some(no),
     }
 }
 
-fn fitted(a: Asked, n: usize, body: &[u8], fits: &[f64], stored: &[f64]) -> bool {
-    let answer = of_fit(n);
-    if !figured(a, &answer, body) {
-        return false;
-    }
-    filled_same(fits, FIT, stored, a.fitted)
+// Are figures, a list of elements, one of fits, and the buffer what is stored?
+fn figured(case: Case, answer: &[f64]) -> bool {
+    figured_same(case.asked.refused, answer, figures_from(case.body, FIGURES))
 }
 
-pub fn fit(
-    a: Asked,
-    body: &[u8],
-    iq: &[f32],
-    given_elements: &[f64],
-    stored_fits: &[f64],
-    fits: &mut [f64],
-    work: &mut [f64],
-) -> Answered {
+fn listed(case: Case, elements: &[f64]) -> bool {
+    filled_same(elements, ELEMENT, case.stored_elements, case.asked.listed)
+}
+
+fn fitted(case: Case, fits: &[f64]) -> bool {
+    filled_same(fits, FIT, case.stored_fits, case.asked.fitted)
+}
+
+fn left(case: Case, buf: &[f32]) -> bool {
+    let a = case.asked;
+    left_same(a.refused, a.changed, buf, case.iq, case.left)
+}
+
+pub fn find(case: Case, lent: Lent) -> Answered {
+    let a = case.asked;
+    let Lent { elements, work, .. } = lent;
+    match cancel::find_elements(case.iq, a.fs, a.hint_hz, elements, work) {
+        Err(no) => refused(a, no, elements, elements, work),
+        Ok(f) => done(figured(case, &of_find(f)) && listed(case, elements)),
+    }
+}
+
+pub fn fit(case: Case, lent: Lent) -> Answered {
+    let a = case.asked;
+    let Lent { fits, work, .. } = lent;
     match cancel::fit_elements(
-        iq,
+        case.iq,
         a.fs,
         a.hint_hz,
-        given_elements,
+        case.given_elements(),
         a.element_count,
         fits,
         work,
     ) {
-        FitAnswer::Refused(no) => refused(a, no, fits, fits, work),
-        FitAnswer::Done(n) => done(fitted(a, n, body, fits, stored_fits)),
+        Err(no) => refused(a, no, fits, fits, work),
+        Ok(n) => done(figured(case, &of_fit(n)) && fitted(case, fits)),
     }
 }
 
-fn lists_filled(
-    a: Asked,
-    elements: &[f64],
-    stored_elements: &[f64],
-    fits: &[f64],
-    stored_fits: &[f64],
-) -> bool {
-    if !filled_same(elements, ELEMENT, stored_elements, a.listed) {
-        return false;
-    }
-    filled_same(fits, FIT, stored_fits, a.fitted)
-}
-
-fn estimated(
-    a: Asked,
-    e: Estimate,
-    body: &[u8],
-    elements: &[f64],
-    stored_elements: &[f64],
-    fits: &[f64],
-    stored_fits: &[f64],
-) -> bool {
-    let answer = of_estimate(e);
-    if !figured(a, &answer, body) {
-        return false;
-    }
-    lists_filled(a, elements, stored_elements, fits, stored_fits)
-}
-
-pub fn estimate(
-    a: Asked,
-    body: &[u8],
-    iq: &[f32],
-    stored_elements: &[f64],
-    stored_fits: &[f64],
-    elements: &mut [f64],
-    fits: &mut [f64],
-    work: &mut [f64],
-) -> Answered {
-    match cancel::estimate_strong(iq, a.fs, a.hint_hz, elements, fits, work) {
-        EstimateAnswer::Refused(no) => refused(a, no, elements, fits, work),
-        EstimateAnswer::Done(e) => done(estimated(
-            a,
-            e,
-            body,
-            elements,
-            stored_elements,
-            fits,
-            stored_fits,
-        )),
-    }
-}
-
-pub fn residual(
-    a: Asked,
-    body: &[u8],
-    iq: &[f32],
-    given_elements: &[f64],
-    given_fits: &[f64],
-    work: &mut [f64],
-) -> Answered {
-    match cancel::residual_check(
-        iq,
-        a.fs,
-        a.carrier_hz,
-        a.carrier_step_hz,
-        given_elements,
-        a.element_count,
-        given_fits,
-        a.fit_count,
+pub fn estimate(case: Case, lent: Lent) -> Answered {
+    let a = case.asked;
+    let Lent {
+        elements,
+        fits,
         work,
-    ) {
-        ResidualAnswer::Refused(no) => refused(a, no, work, work, work),
-        ResidualAnswer::Done(r) => {
-            let answer = of_residual(r);
-            done(figured(a, &answer, body))
-        }
+        ..
+    } = lent;
+    match cancel::estimate_strong(case.iq, a.fs, a.hint_hz, elements, fits, work) {
+        Err(no) => refused(a, no, elements, fits, work),
+        Ok(e) => done(
+            figured(case, &of_estimate(e)) && listed(case, elements) && fitted(case, fits),
+        ),
     }
 }
 
-pub fn evidence(
-    a: Asked,
-    body: &[u8],
-    iq: &[f32],
-    given_elements: &[f64],
-    given_fits: &[f64],
-    work: &mut [f64],
-) -> Answered {
-    match cancel::second_carrier_evidence(
-        iq,
-        a.fs,
-        a.carrier_hz,
-        a.carrier_step_hz,
-        given_elements,
-        a.element_count,
-        given_fits,
-        a.fit_count,
-        work,
-    ) {
-        EvidenceAnswer::Refused(no) => refused(a, no, work, work, work),
-        EvidenceAnswer::Done(e) => {
-            let answer = of_evidence(e);
-            done(figured(a, &answer, body))
-        }
+pub fn residual(case: Case, lent: Lent) -> Answered {
+    let a = case.asked;
+    let work = lent.work;
+    match cancel::residual_check(case.iq, a.fs, &case.given(), work) {
+        Err(no) => refused(a, no, work, work, work),
+        Ok(r) => done(figured(case, &of_residual(r))),
+    }
+}
+
+pub fn evidence(case: Case, lent: Lent) -> Answered {
+    let a = case.asked;
+    let work = lent.work;
+    match cancel::second_carrier_evidence(case.iq, a.fs, &case.given(), work) {
+        Err(no) => refused(a, no, work, work, work),
+        Ok(e) => done(figured(case, &of_evidence(e))),
     }
 }
 
 // It refuses nothing.
-pub fn classify(body: &[u8]) -> Answered {
+pub fn classify(case: Case) -> Answered {
+    let body = case.body;
     let e = SecondCarrierEvidence {
         gap_blocks: long(body, 0) as usize,
         hot_fraction: double(body, 2),
@@ -209,120 +125,53 @@ pub fn classify(body: &[u8]) -> Answered {
     done(same_figures(&answer, figures_from(body, CLASSIFY_ANSWER)))
 }
 
-// The buffer holds the recording.
-pub fn subtract(
-    a: Asked,
-    iq: &[f32],
-    left: &[f32],
-    given_elements: &[f64],
-    given_fits: &[f64],
-    buf: &mut [f32],
-) -> Answered {
-    match cancel::subtract(
-        buf,
-        a.fs,
-        a.carrier_hz,
-        a.carrier_step_hz,
-        given_elements,
-        a.element_count,
-        given_fits,
-        a.fit_count,
-    ) {
-        SubtractAnswer::Refused(no) => Answered {
-            equal: kept_same(a.no, no, buf, iq),
-            no,
-        },
-        SubtractAnswer::Done => done(left_same(a.no, a.changed, buf, iq, left)),
+pub fn subtract(case: Case, lent: Lent) -> Answered {
+    let a = case.asked;
+    let buf = lent.buf;
+    match cancel::subtract(buf, a.fs, &case.given()) {
+        Err(no) => {
+            let no = u64::from(no);
+            Answered {
+                equal: kept_same(a.refused, no, buf, case.iq),
+                refused: Some(no),
+            }
+        }
+        Ok(()) => done(left(case, buf)),
     }
 }
 
-fn run_refused(
-    a: Asked,
-    no: u64,
-    iq: &[f32],
-    buf: &[f32],
-    elements: &[f64],
-    fits: &[f64],
-    work: &[f64],
-) -> Ran {
-    let lists = refused_same(a.no, no, elements, fits, work);
-    let kept = kept_same(a.no, no, buf, iq);
-    Ran {
-        equal: if kept { lists } else { false },
-        no,
-        hypothesis: 0,
-        taken: false,
-        changed: 0,
-    }
-}
-
-fn run_filled(
-    a: Asked,
-    f: RunFigures,
-    body: &[u8],
-    stored_elements: &[f64],
-    stored_fits: &[f64],
-    elements: &[f64],
-    fits: &[f64],
-) -> bool {
-    let answer = of_run(f);
-    if !figured(a, &answer, body) {
-        return false;
-    }
-    lists_filled(a, elements, stored_elements, fits, stored_fits)
-}
-
-fn run_done(
-    a: Asked,
-    f: RunFigures,
-    body: &[u8],
-    iq: &[f32],
-    left: &[f32],
-    stored_elements: &[f64],
-    stored_fits: &[f64],
-    buf: &[f32],
-    elements: &[f64],
-    fits: &[f64],
-) -> Ran {
-    let hypothesis = f.hypothesis;
-    let h = case_of(hypothesis);
-    let answers = run_filled(a, f, body, stored_elements, stored_fits, elements, fits);
-    let leaves = left_same(a.no, a.changed, buf, iq, left);
-    Ran {
-        equal: if answers { leaves } else { false },
-        no: 0,
+// What an accepted run found; `buf` is the buffer that it left.
+fn found(case: Case, f: RunFigures, buf: &[f32]) -> Found {
+    let h = case_of(f.hypothesis);
+    Found {
         hypothesis: float::to_whole(h.number),
-        taken: f.taken,
-        changed: changed(buf, iq),
+        taken: f.taken.then(|| changed(buf, case.iq)),
     }
 }
 
-// The buffer holds the recording.
-pub fn run(
-    a: Asked,
-    body: &[u8],
-    iq: &[f32],
-    left: &[f32],
-    stored_elements: &[f64],
-    stored_fits: &[f64],
-    buf: &mut [f32],
-    elements: &mut [f64],
-    fits: &mut [f64],
-    work: &mut [f64],
-) -> Ran {
+pub fn run(case: Case, lent: Lent) -> Ran {
+    let a = case.asked;
+    let Lent {
+        buf,
+        elements,
+        fits,
+        work,
+    } = lent;
     match cancel::run(buf, a.fs, a.hint_hz, elements, fits, work) {
-        RunAnswer::Refused(no) => run_refused(a, no, iq, buf, elements, fits, work),
-        RunAnswer::Done(f) => run_done(
-            a,
-            f,
-            body,
-            iq,
-            left,
-            stored_elements,
-            stored_fits,
-            buf,
-            elements,
-            fits,
-        ),
+        Err(no) => {
+            let no = u64::from(no);
+            Ran {
+                equal: refused_same(a.refused, no, elements, fits, work)
+                    && kept_same(a.refused, no, buf, case.iq),
+                answer: Err(no),
+            }
+        }
+        Ok(f) => Ran {
+            equal: figured(case, &of_run(f))
+                && listed(case, elements)
+                && fitted(case, fits)
+                && left(case, buf),
+            answer: Ok(found(case, f, buf)),
+        },
     }
 }

@@ -1,153 +1,111 @@
-// A stored case: lends what it names and asks its call. Lists and work slice hold one number before the call, so that
-// it shows where a call wrote.
+// A stored case, and what its call is lent: as many numbers as the case names. Lists and work slice hold one number
+// before the call, so that it shows where a call wrote.
+ghost use Rattle.std.specs.Prelude.{◌≡◌, take};
+
 use crate::calls;
+use crate::kept::Kept;
 use crate::sizes::{ELEMENTS, FITS, FLOATS, WORK};
-use stored::answer::{Answered, Ran};
-use stored::asked::of_case;
+use cancel::GivenEstimate;
+use stored::answer::Answered;
+use stored::asked::{Asked, of_case};
 use stored::equal::LENT;
 use stored::kept::copied;
+use stored::kind::Call;
+use stored::tally::Tally;
 
-pub fn find(body: &[u8], iq: &[f32], stored_elements: &[f64]) -> Answered {
-    let a = of_case(body);
-    let mut elements = [LENT; ELEMENTS];
-    let mut work = [LENT; WORK];
-    let n = float::least(a.floats, iq.len());
-    let e = float::least(a.elements, ELEMENTS);
-    let w = float::least(a.work, WORK);
-    calls::find(
-        a,
-        body,
-        &iq[..n],
-        stored_elements,
-        &mut elements[..e],
-        &mut work[..w],
-    )
+// What a case asks, its body, the recording as far as it is lent, what the call has to leave of it, and the lists.
+#[derive(Clone, Copy)]
+pub struct Case<'a> {
+    pub asked: Asked,
+    pub body: &'a [u8],
+    pub iq: &'a [f32],
+    pub left: &'a [f32],
+    pub stored_elements: &'a [f64],
+    pub stored_fits: &'a [f64],
 }
 
-pub fn fit(body: &[u8], iq: &[f32], stored_elements: &[f64], stored_fits: &[f64]) -> Answered {
-    let a = of_case(body);
-    let mut fits = [LENT; FITS];
-    let mut work = [LENT; WORK];
-    let n = float::least(a.floats, iq.len());
-    let e = float::least(a.given_elements, stored_elements.len());
-    let f = float::least(a.fits, FITS);
-    let w = float::least(a.work, WORK);
-    calls::fit(
-        a,
-        body,
-        &iq[..n],
-        &stored_elements[..e],
-        stored_fits,
-        &mut fits[..f],
-        &mut work[..w],
-    )
+impl<'a> Case<'a> {
+    fn new(body: &'a [u8], kept: &'a Kept) -> Case<'a> {
+        let asked = of_case(body);
+        Case {
+            asked,
+            body,
+            iq: first(&kept.iq, asked.floats),
+            left: &kept.left,
+            stored_elements: &kept.elements,
+            stored_fits: &kept.fits,
+        }
+    }
+
+    // The first places of the kept elements, as far as a case hands them over.
+    pub fn given_elements(&self) -> &'a [f64] {
+        first(self.stored_elements, self.asked.given_elements)
+    }
+
+    pub fn given(&self) -> GivenEstimate<'a> {
+        let a = self.asked;
+        GivenEstimate {
+            carrier_hz: a.carrier_hz,
+            carrier_step_hz: a.carrier_step_hz,
+            elements: self.given_elements(),
+            element_count: a.element_count,
+            fits: first(self.stored_fits, a.given_fits),
+            fit_count: a.fit_count,
+        }
+    }
 }
 
-pub fn estimate(body: &[u8], iq: &[f32], stored_elements: &[f64], stored_fits: &[f64]) -> Answered {
-    let a = of_case(body);
-    let mut elements = [LENT; ELEMENTS];
-    let mut fits = [LENT; FITS];
-    let mut work = [LENT; WORK];
-    let n = float::least(a.floats, iq.len());
-    let e = float::least(a.elements, ELEMENTS);
-    let f = float::least(a.fits, FITS);
-    let w = float::least(a.work, WORK);
-    calls::estimate(
-        a,
-        body,
-        &iq[..n],
-        stored_elements,
-        stored_fits,
-        &mut elements[..e],
-        &mut fits[..f],
-        &mut work[..w],
-    )
+// What a call may write to. The buffer holds the recording.
+#[derive(Drop)]
+pub struct Lent<'a> {
+    pub buf: &'a mut [f32],
+    pub elements: &'a mut [f64],
+    pub fits: &'a mut [f64],
+    pub work: &'a mut [f64],
 }
 
-pub fn residual(body: &[u8], iq: &[f32], stored_elements: &[f64], stored_fits: &[f64]) -> Answered {
-    let a = of_case(body);
-    let mut work = [LENT; WORK];
-    let n = float::least(a.floats, iq.len());
-    let e = float::least(a.given_elements, stored_elements.len());
-    let f = float::least(a.given_fits, stored_fits.len());
-    let w = float::least(a.work, WORK);
-    calls::residual(
-        a,
-        body,
-        &iq[..n],
-        &stored_elements[..e],
-        &stored_fits[..f],
-        &mut work[..w],
-    )
+// The first n of a row, or all where it has fewer.
+fn first<T>(row: &[T], n: usize) -> &[T]
+    ensures { result.now ≡ take n row.now }
+{
+    let end = n.min(row.len());
+    &row[..end]
 }
 
-pub fn evidence(body: &[u8], iq: &[f32], stored_elements: &[f64], stored_fits: &[f64]) -> Answered {
-    let a = of_case(body);
-    let mut work = [LENT; WORK];
-    let n = float::least(a.floats, iq.len());
-    let e = float::least(a.given_elements, stored_elements.len());
-    let f = float::least(a.given_fits, stored_fits.len());
-    let w = float::least(a.work, WORK);
-    calls::evidence(
-        a,
-        body,
-        &iq[..n],
-        &stored_elements[..e],
-        &stored_fits[..f],
-        &mut work[..w],
-    )
+fn first_mut<T>(row: &mut [T], n: usize) -> &mut [T] {
+    let end = n.min(row.len());
+    &mut row[..end]
 }
 
-pub fn subtract(
-    body: &[u8],
-    iq: &[f32],
-    left: &[f32],
-    stored_elements: &[f64],
-    stored_fits: &[f64],
-) -> Answered {
-    let a = of_case(body);
-    let mut buf = [0.0f32; FLOATS];
-    copied(iq, &mut buf);
-    let n = float::least(a.floats, FLOATS);
-    let e = float::least(a.given_elements, stored_elements.len());
-    let f = float::least(a.given_fits, stored_fits.len());
-    calls::subtract(
-        a,
-        iq,
-        left,
-        &stored_elements[..e],
-        &stored_fits[..f],
-        &mut buf[..n],
-    )
-}
-
-pub fn run(
-    body: &[u8],
-    iq: &[f32],
-    left: &[f32],
-    stored_elements: &[f64],
-    stored_fits: &[f64],
-) -> Ran {
-    let a = of_case(body);
-    let mut buf = [0.0f32; FLOATS];
+// Asks a call of a case and counts what came of it. What a run found is counted too, where it is not meant to differ.
+pub fn ask(call: Call, meant: bool, body: &[u8], kept: &Kept, tally: &mut Tally) {
+    let case = Case::new(body, kept);
+    let mut buf = [0.0; FLOATS];
+    copied(&kept.iq, &mut buf);
     let mut elements = [LENT; ELEMENTS];
     let mut fits = [LENT; FITS];
     let mut work = [LENT; WORK];
-    copied(iq, &mut buf);
-    let n = float::least(a.floats, FLOATS);
-    let e = float::least(a.elements, ELEMENTS);
-    let f = float::least(a.fits, FITS);
-    let w = float::least(a.work, WORK);
-    calls::run(
-        a,
-        body,
-        iq,
-        left,
-        stored_elements,
-        stored_fits,
-        &mut buf[..n],
-        &mut elements[..e],
-        &mut fits[..f],
-        &mut work[..w],
-    )
+    let lent = Lent {
+        buf: first_mut(&mut buf, case.asked.floats),
+        elements: first_mut(&mut elements, case.asked.elements),
+        fits: first_mut(&mut fits, case.asked.fits),
+        work: first_mut(&mut work, case.asked.work),
+    };
+    let answered = match call {
+        Call::FindElements => calls::find(case, lent),
+        Call::FitElements => calls::fit(case, lent),
+        Call::EstimateStrong => calls::estimate(case, lent),
+        Call::ResidualCheck => calls::residual(case, lent),
+        Call::SecondCarrierEvidence => calls::evidence(case, lent),
+        Call::Classify => calls::classify(case),
+        Call::Subtract => calls::subtract(case, lent),
+        Call::Run => {
+            let ran = calls::run(case, lent);
+            if !meant {
+                tally.count_run(ran);
+            }
+            Answered::from(ran)
+        }
+    };
+    tally.count(call, meant, answered);
 }

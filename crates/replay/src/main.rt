@@ -4,180 +4,49 @@
 
 mod calls;
 mod cases;
+mod kept;
 mod sizes;
 
-ghost use Rattle.std.specs.Prelude.{◌/◌, ◌≤◌, ◌<◌, length};
-
-use crate::sizes::{ELEMENTS, FITS, FLOATS};
+use crate::cases::ask;
+use crate::kept::Kept;
 use std::io;
-use stored::answer::{Answered, Ran, counted, counted_run};
-use stored::kept::put;
-use stored::tally::{PLACES, add};
-use stored::units::{count, size_at};
-use stored::{tally, told};
+use stored::kept::{copied, floats, list, recording};
+use stored::kind::{Broken, Kind};
+use stored::records::{Record, Records};
+use stored::tally::Tally;
 
-// The first record that puts nothing, and what a call's kind is raised by where its stored answer is meant to differ.
-const END: usize = 7;
-
-const RAISED: usize = 64;
-
-// What a run found is counted too, where it is not meant to differ.
-fn ran(tally: &mut [u64; PLACES], meant: bool, r: Ran) {
-    counted(
-        tally,
-        7,
-        meant,
-        Answered {
-            equal: r.equal,
-            no: r.no,
-        },
-    );
-    if !meant {
-        counted_run(tally, r);
+// Replays a record: puts what it holds, counts that it is the end, or asks its call.
+fn replay_record(record: Record, kept: &mut Kept, tally: &mut Tally) {
+    let body = record.body;
+    match record.kind {
+        Kind::Recording => recording(body, &mut kept.iq),
+        Kind::Floats => floats(body, &mut kept.iq),
+        Kind::Left => copied(&kept.iq, &mut kept.left),
+        Kind::LeftFloats => floats(body, &mut kept.left),
+        Kind::Elements => list(body, &mut kept.elements),
+        Kind::Fits => list(body, &mut kept.fits),
+        Kind::End => tally.count_end(),
+        Kind::Stored(call) => ask(call, false, body, kept, tally),
+        Kind::Meant(call) => ask(call, true, body, kept, tally),
     }
 }
 
-// A call, in the order of crates/replay/README.md; answers whether its kind is known.
-fn ask(
-    kind: usize,
-    meant: bool,
-    body: &[u8],
-    iq: &[f32],
-    left: &[f32],
-    stored_elements: &[f64],
-    stored_fits: &[f64],
-    tally: &mut [u64; PLACES],
-) -> bool {
-    match kind {
-        16 => counted(tally, 0, meant, cases::find(body, iq, stored_elements)),
-        17 => counted(
-            tally,
-            1,
-            meant,
-            cases::fit(body, iq, stored_elements, stored_fits),
-        ),
-        18 => counted(
-            tally,
-            2,
-            meant,
-            cases::estimate(body, iq, stored_elements, stored_fits),
-        ),
-        19 => counted(
-            tally,
-            3,
-            meant,
-            cases::residual(body, iq, stored_elements, stored_fits),
-        ),
-        20 => counted(
-            tally,
-            4,
-            meant,
-            cases::evidence(body, iq, stored_elements, stored_fits),
-        ),
-        21 => counted(tally, 5, meant, calls::classify(body)),
-        22 => counted(
-            tally,
-            6,
-            meant,
-            cases::subtract(body, iq, left, stored_elements, stored_fits),
-        ),
-        23 => ran(
-            tally,
-            meant,
-            cases::run(body, iq, left, stored_elements, stored_fits),
-        ),
-        _ => return false,
+// Replays one record after the other, up to one that is broken.
+fn replay_records(bytes: &[u8], tally: &mut Tally) -> Result<(), Broken> {
+    let mut kept = Kept::NOTHING;
+    for record in Records::new(bytes) {
+        replay_record(record?, &mut kept, tally);
     }
-    true
+    Ok(())
 }
 
-fn record(
-    kind: usize,
-    body: &[u8],
-    iq: &mut [f32],
-    left: &mut [f32],
-    stored_elements: &mut [f64],
-    stored_fits: &mut [f64],
-    tally: &mut [u64; PLACES],
-) -> bool {
-    if kind < END {
-        return put(kind, body, iq, left, stored_elements, stored_fits);
-    }
-    if kind == END {
-        add(tally, tally::ENDS, 1, 0, 1);
-        return true;
-    }
-    let meant = kind >= RAISED;
-    let call = if meant { kind - RAISED } else { kind };
-    ask(
-        call,
-        meant,
-        body,
-        iq,
-        left,
-        stored_elements,
-        stored_fits,
-        tally,
-    )
-}
-
-// Replays the record at a unit; answers where the next one is. One that is not whole or not known is the last.
-fn next(
-    bytes: &[u8],
-    at: usize,
-    iq: &mut [f32],
-    left: &mut [f32],
-    stored_elements: &mut [f64],
-    stored_fits: &mut [f64],
-    tally: &mut [u64; PLACES],
-) -> usize
-    requires { at < length bytes.now / 4 }
-    ensures { (at < result) × (result ≤ length bytes.now / 4) }
-{
-    let size = size_at(bytes, at);
-    if size < 2 {
-        add(tally, tally::BROKEN, 1, 0, 1);
-        return bytes.len() / 4;
-    }
-    let after = at + size;
-    let from = 4 * at + 8;
-    let to = 4 * after;
-    if record(
-        count(bytes, at),
-        &bytes[from..to],
-        iq,
-        left,
-        stored_elements,
-        stored_fits,
-        tally,
-    ) {
-        return after;
-    }
-    add(tally, tally::BROKEN, 1, 0, 1);
-    bytes.len() / 4
-}
-
-// Keeps what the records put, replays one after the other, and tells what was counted.
+// Replays a file, and tells what was counted.
 fn replay<W: io::Write>(out: &mut W, bytes: &[u8]) -> io::Result<()> {
-    let mut iq = [0.0f32; FLOATS];
-    let mut left = [0.0f32; FLOATS];
-    let mut stored_elements = [0.0f64; ELEMENTS];
-    let mut stored_fits = [0.0f64; FITS];
-    let mut tally = [0u64; PLACES];
-    let units = bytes.len() / 4;
-    let mut at = 0;
-    while at < units {
-        at = next(
-            bytes,
-            at,
-            &mut iq,
-            &mut left,
-            &mut stored_elements,
-            &mut stored_fits,
-            &mut tally,
-        );
+    let mut tally = Tally::new();
+    if replay_records(bytes, &mut tally).is_err() {
+        tally.count_broken();
     }
-    told::all(out, &tally, bytes.len() % 4 == 0)
+    write!(out, "{tally}")
 }
 
 // One byte more than the stored answers may have, so that too many are noticed: then the end is not read.

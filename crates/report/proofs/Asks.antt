@@ -1,12 +1,12 @@
 -- What the run answers when the program lends it its own lists: of 01's questions only the third can be no. And what
 -- the report then is. Assumes nothing.
-use Prim.Native.Nat.{ℕ, zero, suc, ◌+◌, ◌*◌, ◌/◌, ◌%◌, ◌≤◌}
+use Prim.Native.Nat.{ℕ, zero, suc, ◌*◌, ◌/◌, ◌%◌, ◌≤◌}
 use native.Mathlib.Omega.{arith}
 use mathlib.Core.Path.{◌≡◌, refl, sym, ap, ◌∙◌}
 use mathlib.Core.Bool.{true, false}
-use mathlib.Core.List.{List, [], ◌∷◌, ◌++◌}
+use mathlib.Core.List.{List, [], ◌∷◌}
 use lib.Dec.{leb, eqb}
-use lib.ListN.{length, take, drop}
+use lib.ListN.{length, take}
 use lib.Ieee.{Float, nan, of_bits, of_int, round, le, lt, eq, div, is_nan}
 use borrow.Author.Tests.{le-leb, eq-eqb, eqb-true}
 use Rattle.float.specs.Ops.{bits}
@@ -30,18 +30,17 @@ use Rattle.questions.specs.Questions.{ask, first_no, count_ok, carrier_ok, place
 use Rattle.cancel.specs.Running.{RunResult, run_rule}
 use Rattle.cancel.proofs.RunAccepted.{run_done}
 use Rattle.format.specs.Bytes.{bytes_ok, INPUT, part_at}
-use Rattle.format.specs.Text.{Appended}
 use Rattle.format.proofs.Laws.{too_many}
 use Rattle.lines.specs.Lines.{run_lines}
-use Rattle.report.specs.Report.{RATE, HINT, ROOM, recording_of, refusal, answered, report_of}
-use Rattle.report.proofs.Room.{blocks_few, listed_few, answered_most}
+use Rattle.report.specs.Report.{RATE, HINT, recording_of, refusal, answered, report_of}
+use Rattle.report.proofs.Room.{blocks_few, listed_few}
 
 -- ---- the code's literals
-pub rate_bits : bits 0x40a7_7000_0000_0000 ≡ RATE
+rate_bits : bits 0x40a7_7000_0000_0000 ≡ RATE
 unfolding of_bits of_int round
 rate_bits = refl
 
-pub hint_bits : bits 0 ≡ HINT
+hint_bits : bits 0 ≡ HINT
 unfolding of_bits of_int round
 hint_bits = refl
 
@@ -93,6 +92,12 @@ module _ (iq : List Float) (fs hint : Float) (elements fits work : List Float) w
     pub fits_places : 8192 ≤ length fits
     pub work_numbers : 8192 ≤ length work
 
+-- what the program lends, at the rate and the hint that it asks with
+pub lends : (iq elements fits work : List Float) → length iq % 2 ≡ 0 → length iq ≤ 4096 → 4096 ≤ length elements → 8192 ≤ length fits → 8192 ≤ length work
+    → Lent iq (bits 0x40a7_7000_0000_0000) (bits 0) elements fits work
+lends iq elements fits work even few places places-of-fits numbers =
+    record { is_rate = rate_bits; is_hint = hint_bits; even = even; few = few; elements_places = places; fits_places = places-of-fits; work_numbers = numbers }
+
 module _ {iq : List Float} {fs hint : Float} {elements fits work : List Float} where
   third : Lent iq fs hint elements fits work → first_no (estimate_questions iq fs hint (length elements) (length fits) (length work)) ≡ first_no (ask REFUSED_SAMPLE (all_finite iq) ∷ [])
   third l =
@@ -130,13 +135,8 @@ module _ {iq : List Float} {fs hint : Float} {elements fits work : List Float} w
         let most = listed_few iq l.few in
         omega arith
 
-    pub done_room : (out : List ℕ) → 4096 ≤ length els → ROOM ≤ length out
-        → (ELEMENT * f.estimate.found.listed ≤ length els) × (length (run_lines f (elements_in els f.estimate.found.listed)) ≤ length out)
-    done_room out places room =
-        let few-listed = done_listed in
-        let most = answered_most (first_no (ask REFUSED_SAMPLE (all_finite iq) ∷ [])) iq l.few in
-        let same = ap length done_is in
-        (omega arith, omega arith)
+    pub done_places : 4096 ≤ length els → ELEMENT * f.estimate.found.listed ≤ length els
+    done_places places = let few-listed = done_listed in omega arith
 
 -- ---- the report
 
@@ -161,9 +161,3 @@ whole_samples n h = let eight = eqb-true (n % 8) 0 (and_left (eqb (n % 8) 0) (le
 pub recording_read : (l : List Float) (bytes : List ℕ) → length bytes / 4 ≤ length l → take (length bytes / 4) (fill l 0 (part_at bytes) (length bytes / 4)) ≡ recording_of bytes
 unfolding recording_of
 recording_read l bytes h = part_fill l 0 (part_at bytes) (length bytes / 4) nan (omega arith)
-
--- text at the start of a buffer
-pub at_start : (d text after : List ℕ) (r : ℕ) → Appended d 0 text after r → (r ≡ length text) × (after ≡ text ++ drop (length text) d)
-at_start d text after r p =
-    let none : 0 + length text ≡ length text = omega arith in
-    (p.next ∙ none, p.holds ∙ ap (λ (k : ℕ). text ++ drop k d) none)

@@ -1,5 +1,7 @@
 -- A report is never longer than `ROOM`: at most 1,024 key lines of at most 16 bytes with their line ends, and the other
 -- lines. Assumes nothing.
+use Rattle.std.proofs.Common.{Some, None}
+use Rattle.std.specs.declared.option.Option.{Option}
 use Prim.Native.Nat.{ℕ, zero, suc, ◌-◌, ◌*◌, ◌/◌, ◌≤◌}
 use native.Mathlib.Nat.{div-one}
 use native.Mathlib.Omega.{arith}
@@ -9,14 +11,13 @@ use mathlib.Core.List.Memᴰ
 use mathlib.Core.List.{List, [], ◌∷◌, Memᴰ}
 use lib.ListN.{length, length-append}
 use lib.Ieee.{Float, binary64, to_unsigned}
+use Rattle.std.specs.Prelude.{codes}
 use Rattle.float.proofs.Counts.{whole_back}
 use Rattle.lists.proofs.Firsts.{length_firsts}
 use Rattle.row.specs.Window.{step_of, step_blocks}
 use Rattle.row.specs.Envelope.{row_of, row_length}
 use Rattle.elements.specs.declared.element.KeyedElement.{KeyedElement}
 use Rattle.elements.specs.Keying.{KeyDown, row_key_downs, element_of, listed_of, elements_of, elements_to}
-use Rattle.elements.specs.declared.threshold.Threshold.{Threshold}
-use Rattle.elements.specs.declared.threshold.Threshold.TheVariants.{At, Absent}
 use Rattle.elements.specs.Find.{threshold_of, elements_at, elements_found}
 use Rattle.elements.proofs.KeyDowns.{members, listed_is}
 use Rattle.elements.proofs.Recording.{listed_counted, all_counted, enough_places}
@@ -28,7 +29,6 @@ use Rattle.engine.specs.declared.run.RunFigures.{RunFigures}
 use Rattle.engine.specs.Run.{run_figures}
 use Rattle.questions.specs.Questions.{first_no}
 use Rattle.questions.proofs.FirstNo.{yes_at}
-use Rattle.format.specs.Ascii.{ascii}
 use Rattle.format.specs.Bytes.{bytes_ok, part_at}
 use Rattle.format.proofs.Laws.{parts_few}
 use Rattle.format.proofs.Lines.{line_most, pair_most}
@@ -76,12 +76,12 @@ module _ (iq : List Float) (few : length iq ≤ 4096) where
       last_few : row_length iq RATE - 1 ≤ 2048
       last_few = let b = blocks_few in omega arith
 
-      go : (t : Threshold) → threshold_of iq RATE carrier ≡ t → Memᴰ e (elements_at (row_of iq RATE carrier) (row_length iq RATE - 1) (step_of RATE) RATE t) → length (key_line e) ≤ 16
-      go (At thr) p m =
+      go : (t : Option Float) → threshold_of iq RATE carrier ≡ t → Memᴰ e (elements_at (row_of iq RATE carrier) (row_length iq RATE - 1) (step_of RATE) RATE t) → length (key_line e) ≤ 16
+      go (Some thr) p m =
           let at = placed (row_of iq RATE carrier) thr (step_of RATE) RATE (row_length iq RATE - 1) last_few e m in
           let small = last_few in
-          pair_most (ascii "(key") (to_unsigned 64 e.up) (to_unsigned 64 e.down) (omega arith) (omega arith)
-      go Absent p m = absurd (Memᴰ.not-nil m)
+          pair_most (codes "(key") (to_unsigned 64 e.up) (to_unsigned 64 e.down) (omega arith) (omega arith)
+      go None p m = absurd (Memᴰ.not-nil m)
 
   -- floor(B/2) of them at most
   pub listed_few : length (strong_elements iq RATE HINT) ≤ 1024
@@ -105,10 +105,10 @@ module _ (iq : List Float) (few : length iq ≤ 4096) where
 counts_most : (f : RunFigures) → length (count_lines f) ≤ 302
 counts_most f =
     let all = count_length f in
-    let size = line_most (ascii "(size") (f.samples ∷ f.window ∷ f.blocks ∷ []) in
-    let keys = line_most (ascii "(keys") (f.estimate.found.key_downs ∷ f.estimate.found.listed ∷ f.estimate.found.short ∷ f.estimate.fitted ∷ f.skipped ∷ []) in
-    let air = line_most (ascii "(air") (f.estimate.found.airtime ∷ []) in
-    let blocks = line_most (ascii "(blocks") (f.classes.edge ∷ f.classes.interior ∷ f.classes.gap ∷ f.classes.other ∷ []) in
+    let size = line_most (codes "(size") (f.samples ∷ f.window ∷ f.blocks ∷ []) in
+    let keys = line_most (codes "(keys") (f.estimate.found.key_downs ∷ f.estimate.found.listed ∷ f.estimate.found.short ∷ f.estimate.fitted ∷ f.skipped ∷ []) in
+    let air = line_most (codes "(air") (f.estimate.found.airtime ∷ []) in
+    let blocks = line_most (codes "(blocks") (f.classes.edge ∷ f.classes.interior ∷ f.classes.gap ∷ f.classes.other ∷ []) in
     omega arith
 
 hypothesis_most : (h : Hypothesis) → length (hypothesis_line h) ≤ 24
@@ -122,7 +122,7 @@ buffer_most true = omega arith
 buffer_most false = omega arith
 
 pub refusal_most : (n : ℕ) → length (refusal n) ≤ ROOM
-refusal_most n = let most = line_most (ascii "(run") (n ∷ []) in omega arith
+refusal_most n = let most = line_most (codes "(run") (n ∷ []) in omega arith
 
 -- ---- the report
 

@@ -1,5 +1,5 @@
 -- The report on a recording (01, part 8): every byte of it, for every input. Definitions only.
-use Rattle.std.specs.Prelude.{ℕ, zero, suc, ◌/◌, List, [], ◌∷◌, length, Float}
+use Rattle.std.specs.Prelude.{ℕ, zero, suc, ◌/◌, List, [], ◌∷◌, length, Float, codes}
 use Rattle.float.specs.Ops.{of}
 use Rattle.lists.specs.Firsts.{firsts}
 use Rattle.row.specs.Samples.{all_finite}
@@ -7,7 +7,6 @@ use Rattle.fits.specs.Estimate.{strong_elements}
 use Rattle.engine.specs.Run.{run_figures}
 use Rattle.questions.specs.Refusals.{REFUSED_COUNT, REFUSED_SAMPLE}
 use Rattle.questions.specs.Questions.{Asked, ask, first_no}
-use Rattle.format.specs.Ascii.{ascii}
 use Rattle.format.specs.Bytes.{bytes_ok, part_at}
 use Rattle.format.specs.Text.{line}
 use Rattle.lines.specs.Lines.{run_lines}
@@ -27,7 +26,7 @@ recording_of bytes = firsts (part_at bytes) (length bytes / 4)
 
 -- Refused: the one line `(run N)`, N the number.
 abbrev pub refusal : ℕ → List ℕ
-refusal n = line (ascii "(run") (n ∷ [])
+refusal n = line (codes "(run") (n ∷ [])
 
 -- By the number of the first no: 0 accepts, with the report of the run; any other refuses.
 unfoldable pub answered : ℕ → List Float → List ℕ

@@ -1,12 +1,10 @@
 -- The row of amplitudes in the work slice: it is that of the block means stored before it, read by its index or as a
 -- list.
-use Prim.Native.Nat.{ℕ, ◌+◌, ◌-◌, ◌*◌, ◌/◌, ◌≤◌, ◌<◌}
-use native.Mathlib.Nat.{div-lt_iff_lt-mul, le-div_iff_mul-le}
-use native.Mathlib.Omega.{arith}
-use mathlib.Core.Path.{◌≡◌, refl, ap}
-use mathlib.Core.List.{List}
-use lib.ListN.{length, take, drop}
-use lib.Ieee.{Float, nan}
+use Rattle.std.proofs.Common.{◌≡◌, ℕ, ◌+◌, ◌-◌, ◌*◌, ◌/◌, ◌≤◌, ◌<◌, List, ◌++◌, length, take, drop, refl, ap, arith}
+use Rattle.std.proofs.Math.Nat.{div-lt_iff_lt-mul, le-div_iff_mul-le}
+use Rattle.std.proofs.Math.ListN.{get_or-append}
+use Rattle.std.specs.Float.{nan}
+use Rattle.std.specs.Prelude.{Float}
 use Rattle.float.specs.Ops.{◌⊘◌, eight}
 use Rattle.complex.specs.declared.value.Complex.{Complex}
 use Rattle.complex.specs.Value.{c_norm, c_div}
@@ -18,20 +16,26 @@ use Rattle.row.specs.Window.{step_of, window_of, samples, step_blocks}
 use Rattle.row.specs.Blocks.{block_mean}
 use Rattle.row.specs.Envelope.{amplitude, row_of, row_length}
 use Rattle.lists.specs.Firsts.{firsts}
-use Rattle.row.proofs.Running.{run_cong}
+use Rattle.row.proofs.Running.{run_cong, fill_behind}
 use Rattle.row.proofs.Steps.{step_low}
 use Rattle.lists.proofs.Fill.{part_fill}
 
 -- ---- the row of the block means
 
--- the amplitudes are of the means that were stored
-pub row_stored : (w mid end : List Float) (z : ℕ → Complex) (b r : ℕ)
-    → r ≡ b → mid ≡ z_fill w 0 z b → end ≡ fill mid (2 * r) (amplitude (z_at mid)) (r - 7) → 8 ≤ b → 3 * b ≤ length w
-    → end ≡ fill (z_fill w 0 z b) (2 * b) (amplitude z) (b - 7)
-row_stored w mid end z b r e p q h g =
-    rw (q, p, e)
-    (fill_cong (z_fill w 0 z b) (2 * b) (amplitude (z_at (z_fill w 0 z b))) (amplitude z) (b - 7)
-    (λ i f. ap (λ (s : Complex). c_norm (c_div s eight)) (run_cong (z_at (z_fill w 0 z b)) z i (λ k j. z_at_z_fill w z b k (omega arith) (omega arith)))))
+-- the amplitudes are of the means that were stored, which are the first part of the work slice
+pub row_stored : (w front back end : List Float) (z : ℕ → Complex) (b r : ℕ)
+    → r ≡ b → front ++ back ≡ z_fill w 0 z b → length front ≡ 2 * r → end ≡ fill back 0 (amplitude (z_at front)) (r - 7) → 8 ≤ b → 3 * b ≤ length w
+    → front ++ end ≡ fill (z_fill w 0 z b) (2 * b) (amplitude z) (b - 7)
+row_stored w front back end z b r e q n p h g =
+    let few : length front ≡ 2 * b = omega arith in
+    rw (p, e, fill_behind front back (2 * b) (amplitude (z_at front)) (b - 7) few, q)
+    (fill_cong (z_fill w 0 z b) (2 * b) (amplitude (z_at front)) (amplitude z) (b - 7)
+    (λ i f. ap (λ (s : Complex). c_norm (c_div s eight)) (run_cong (z_at front) z i (λ k j. read k (omega arith)))))
+  where
+    read : (k : ℕ) → k < b → z_at front k ≡ z k
+    read k j =
+        rw (← get_or-append front back nan (2 * k) (omega arith), ← get_or-append front back nan (2 * k + 1) (omega arith), q)
+        (z_at_z_fill w z b k j (omega arith))
 
 module _ (w end : List Float) (z : ℕ → Complex) (b : ℕ) (e : end ≡ fill (z_fill w 0 z b) (2 * b) (amplitude z) (b - 7)) (g : 3 * b ≤ length w) where
   room : 2 * b + (b - 7) ≤ length (z_fill w 0 z b)

@@ -1,18 +1,15 @@
--- The running sum, turn by turn, while the row of amplitudes is stored past what is read.
-use Prim.Native.Nat.{ℕ, zero, suc, ◌+◌, ◌-◌, ◌*◌, ◌<◌, ◌≤◌}
-use native.Mathlib.Numerals.{add-one}
-use native.Mathlib.Omega.{arith}
-use mathlib.Core.Path.{◌≡◌}
-use mathlib.Core.List.{List}
-use lib.ListN.{set}
-use lib.Ieee.{Float}
+-- The running sum, turn by turn, and the row of amplitudes in a part of a list.
+use Rattle.std.proofs.Common.{◌≡◌, ℕ, zero, suc, ◌+◌, ◌-◌, ◌<◌, ◌≤◌, List, ◌++◌, length, take, drop, refl, add-one, arith}
+use Rattle.std.proofs.lemmas.List.{set-append_left, set-append_right, take-append-drop}
+use Rattle.std.proofs.Math.ListN.{set, length-take}
+use Rattle.std.specs.Prelude.{Float}
 use Rattle.float.specs.Ops.{eight}
 use Rattle.complex.specs.declared.value.Complex.{Complex}
 use Rattle.complex.specs.Value.{c_norm, c_div}
-use Rattle.complex.specs.Rows.{z_at, c_sum}
-use Rattle.complex.proofs.RowLaws.{c_sum_cong, z_at_fill_below}
+use Rattle.complex.specs.Rows.{c_sum}
+use Rattle.complex.proofs.RowLaws.{c_sum_cong}
 use Rattle.lists.specs.Fill.{fill}
-use Rattle.lists.proofs.Fill.{fill_turn}
+use Rattle.lists.proofs.Fill.{length_fill, fill_turn0}
 use Rattle.row.specs.Envelope.{running_sum, amplitude}
 use Rattle.row.specs.Inner.{moved_by}
 
@@ -20,25 +17,38 @@ pub run_none : (z : ℕ → Complex) (run : Complex) → run ≡ c_sum z 0 8 →
 unfolding running_sum
 run_none z run e = e
 
+pub run_turn : (z : ℕ → Complex) (i : ℕ) (run r : Complex) → run ≡ running_sum z i → r ≡ moved_by z i run → r ≡ running_sum z (i + 1)
+unfolding running_sum
+run_turn z i run r p e = rw (add-one, e, p)
+
 -- what is stored in a turn
 pub amplitude_is : (z : ℕ → Complex) (i n : ℕ) (run mean : Complex) (v : Float)
     → run ≡ running_sum z i → mean ≡ c_div run eight → v ≡ c_norm mean → i ≤ n → n ≤ i → v ≡ amplitude z n
 amplitude_is z i n run mean v p q e h g = let here : i ≡ n = omega arith in rw (e, q, p, here)
 
--- the last store
-pub row_done : (b : ℕ) (l cur : List Float) (f : ℕ → Float) (v : Float)
-    → 8 ≤ b → cur ≡ fill l (2 * b) f (b - 8) → v ≡ f (b - 8) → set cur (2 * b + (b - 8)) v ≡ fill l (2 * b) f (b - 7)
-row_done b l cur f v h p e = let all : b - 8 + 1 ≡ b - 7 = omega arith in rw all at (fill_turn l (2 * b) f (b - 8) cur v p e)
+-- a row that is stored in the first part of a list, or in what follows it, is stored in the list
+pub fill_front : (xs ys : List Float) (f : ℕ → Float) (n : ℕ) → n ≤ length xs → fill xs 0 f n ++ ys ≡ fill (xs ++ ys) 0 f n
+unfolding fill
+fill_front xs ys f zero h = refl
+fill_front xs ys f (suc n) h =
+    let room : 0 + n < length (fill xs 0 f n) = rw (length_fill xs 0 f n) (omega arith) in
+    rw (← set-append_left (fill xs 0 f n) ys (0 + n) (f n) room, fill_front xs ys f n (omega arith))
 
-moved_cong : (y z : ℕ → Complex) (i : ℕ) (run : Complex) → y (8 + i) ≡ z (8 + i) → y i ≡ z i → moved_by y i run ≡ moved_by z i run
-moved_cong y z i run h g = rw (h, g)
+pub fill_behind : (xs ys : List Float) (at : ℕ) (f : ℕ → Float) (n : ℕ) → length xs ≡ at → xs ++ fill ys 0 f n ≡ fill (xs ++ ys) at f n
+unfolding fill
+fill_behind xs ys at f zero h = refl
+fill_behind xs ys at f (suc n) h =
+    let here : at + n - at ≡ 0 + n = omega arith in
+    rw (← fill_behind xs ys at f n h, set-append_right xs (fill ys 0 f n) at (at + n) (f n) h (omega arith), here)
 
-pub run_turn : (l cur : List Float) (at : ℕ) (f : ℕ → Float) (n i : ℕ) (run r : Complex)
-    → cur ≡ fill l at f n → run ≡ running_sum (z_at l) i → r ≡ moved_by (z_at cur) i run → 2 * (8 + i) + 1 < at → r ≡ running_sum (z_at l) (i + 1)
-unfolding running_sum
-run_turn l cur at f n i run r p q e h =
-    rw (add-one, e, p, q)
-    (moved_cong (z_at (fill l at f n)) (z_at l) i (running_sum (z_at l) i) (z_at_fill_below l at f n (8 + i) h) (z_at_fill_below l at f n i (omega arith)))
+-- the last store, past the part that the loop filled
+pub row_done : (l cur : List Float) (f : ℕ → Float) (i n : ℕ) (v : Float)
+    → n < length l → cur ≡ fill (take n l) 0 f i → n ≤ i → i ≤ n → v ≡ f n → set (cur ++ drop n l) n v ≡ fill l 0 f (n + 1)
+row_done l cur f i n v h p g k e =
+    let all : i ≡ n = omega arith in
+    let front : cur ++ drop n l ≡ fill l 0 f n =
+    rw (p, all, fill_front (take n l) (drop n l) f n (simp length-take (omega arith)), take-append-drop) in
+    fill_turn0 l f n (cur ++ drop n l) v front e
 
 pub run_cong : (y z : ℕ → Complex) (n : ℕ) → ((k : ℕ) → k < 8 + n → y k ≡ z k) → running_sum y n ≡ running_sum z n
 unfolding running_sum

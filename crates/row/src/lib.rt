@@ -3,10 +3,14 @@
 
 pub mod blocks;
 pub mod envelope;
+pub mod recording;
 pub mod samples;
+pub mod span;
 pub mod window;
 
 pub use blocks::{block_means, derotated, mean_from, rotor};
 pub use envelope::amplitudes;
+pub use recording::{Recording, SampleRate, Samples};
 pub use samples::all_finite;
+pub use span::Span;
 pub use window::{centre, edge_step, rate_ok, step_blocks};

@@ -1,17 +1,170 @@
--- Where something is counted: at its own place where it has one, else as broken.
-use Rattle.std.proofs.Common.{◌≡◌, ℕ, ◌+◌, ◌<◌, ◌≤◌, le-ltb, lt-ltb}
-use mathlib.Core.Bool.{and-false}
-use Rattle.stored.specs.Tally.{PLACES, BROKEN, place_of}
+-- Where something is counted: in the program's counts by their names, and so at its place among all of them.
+use Rattle.std.proofs.Common.{◌≡◌, ℕ, ◌+◌, ◌-◌, ◌^◌, ◌<◌, ◌≤◌, min, not, Bool, true, false, cond, List, [], ◌∷◌, ◌++◌, length, get_or, nat_lt, refl, sym, ◌∙◌, arith, le-ltb, ne_eqb, lt-ltb, ltb-true, ltb-false, length-append, append_assoc, lit≤, lit<, length-set, Option, Some, None, is_some, unwrap_or}
+use Rattle.std.specs.Int.{from_bool}
+use Rattle.std.proofs.lemmas.List.{set-append_left, set-append_right, get_or-append-add, set-get_or}
+use Rattle.std.proofs.Math.ListN.{get_or-append}
+use Rattle.std.proofs.Math.Seq.{get_or-append_seam, set-append_seam}
+use Rattle.stored.specs.declared.tally.Tally.{Tally}
+use Rattle.stored.specs.declared.kind.Call.{Call}
+use Rattle.stored.specs.declared.kind.Call.TheVariants.{FindElements, FitElements, EstimateStrong, ResidualCheck, SecondCarrierEvidence, Classify, Subtract, Run}
+use Rattle.stored.specs.Kinds.{call_number}
+use Rattle.stored.specs.Tally.{asked_in, counted_of, ran_of, CALLS, NUMBERS, HYPOTHESES, ASKED, EQUAL, STORED, MEANT, REFUSED, HYPOTHESIS, TAKEN, CHANGED, ENDS, BROKEN, PLACES, place_of, plus, counts}
+use Rattle.stored.specs.Inner.{group_after, in_group, sum_of, added, row_after, broken_after}
 
-module _ (first places k : ℕ) where
-  pub own_place : k < places → first + k < PLACES → first + k ≡ place_of first places k
-  unfolding place_of
-  own_place h g = rw (lt-ltb k places h, lt-ltb (first + k) PLACES g)
+-- ---- a row of counts that stands behind so many others, and what has no place
+module _ (before : List ℕ) (first places k more : ℕ) where
+  pub in_row : (row after : List ℕ) → length before ≡ first → length row ≡ places → k < places → first + places ≤ PLACES → plus first places k more (before ++ (row ++ after)) ≡ before ++ (added row k more ++ after)
+  unfolding plus place_of
+  in_row row after e f h g =
+      let here : first + k - first ≡ k = omega arith in
+      let read : get_or (before ++ (row ++ after)) (first + k) 0 ≡ get_or row k 0 =
+      rw (← e) (get_or-append-add before (row ++ after) k 0 ∙ get_or-append row after 0 k (omega arith)) in
+      rw (lt-ltb k places h, lt-ltb (first + k) PLACES (omega arith), read, set-append_right before (row ++ after) first (first + k) (sum_of (get_or row k 0) more) e (omega arith), here, set-append_left row after k (sum_of (get_or row k 0) more) (omega arith)) refl
 
-  pub none_left : places ≤ k → BROKEN ≡ place_of first places k
-  unfolding place_of
-  none_left h = rw (le-ltb k places h)
+  pub no_place : (broken : ℕ) → length before ≡ BROKEN → places ≤ k → plus first places k more (before ++ (broken ∷ [])) ≡ before ++ (sum_of broken more ∷ [])
+  unfolding plus place_of
+  no_place broken e h =
+      rw (le-ltb k places h, ← e, get_or-append_seam before broken [] 0, set-append_seam before broken [] (sum_of broken more)) refl
 
-  pub past_all : PLACES ≤ first + k → BROKEN ≡ place_of first places k
-  unfolding place_of
-  past_all h = rw (le-ltb (first + k) PLACES h, and-false)
+-- ---- the program's counts, whose rows have these lengths
+pub record Long (s : Tally) : Type 0 where
+  pub stored_asked : length s.stored.asked ≡ CALLS
+  pub stored_equal : length s.stored.equal ≡ CALLS
+  pub meant_asked : length s.meant.asked ≡ CALLS
+  pub meant_equal : length s.meant.equal ≡ CALLS
+  pub refused : length s.refused ≡ NUMBERS
+  pub hypotheses : length s.hypotheses ≡ HYPOTHESES
+
+module _ (s : Tally) (l : Long s) (k more : ℕ) where
+  pub at_stored_asked : k < CALLS → plus (STORED + ASKED) CALLS k more (counts s) ≡ counts (record s { stored = record s.stored { asked = added s.stored.asked k more } })
+  at_stored_asked h = in_row [] (STORED + ASKED) CALLS k more s.stored.asked _ refl l.stored_asked h (lit≤ tt)
+
+  pub at_stored_equal : k < CALLS → plus (STORED + EQUAL) CALLS k more (counts s) ≡ counts (record s { stored = record s.stored { equal = added s.stored.equal k more } })
+  at_stored_equal h = in_row s.stored.asked (STORED + EQUAL) CALLS k more s.stored.equal _ l.stored_asked l.stored_equal h (lit≤ tt)
+
+  pub at_meant_asked : k < CALLS → plus (MEANT + ASKED) CALLS k more (counts s) ≡ counts (record s { meant = record s.meant { asked = added s.meant.asked k more } })
+  at_meant_asked h =
+      simp append_assoc at (in_row (s.stored.asked ++ s.stored.equal) (MEANT + ASKED) CALLS k more s.meant.asked (s.meant.equal ++ (s.refused ++ (s.hypotheses ++ (s.taken ∷ s.changed ∷ s.ends ∷ s.broken ∷ [])))) (simp length-append (omega arith)) l.meant_asked h (lit≤ tt))
+
+  pub at_meant_equal : k < CALLS → plus (MEANT + EQUAL) CALLS k more (counts s) ≡ counts (record s { meant = record s.meant { equal = added s.meant.equal k more } })
+  at_meant_equal h =
+      simp append_assoc at (in_row (s.stored.asked ++ (s.stored.equal ++ s.meant.asked)) (MEANT + EQUAL) CALLS k more s.meant.equal (s.refused ++ (s.hypotheses ++ (s.taken ∷ s.changed ∷ s.ends ∷ s.broken ∷ []))) (simp length-append (omega arith)) l.meant_equal h (lit≤ tt))
+
+  pub at_taken : plus TAKEN 1 0 more (counts s) ≡ counts (record s { taken = sum_of s.taken more })
+  at_taken =
+      simp append_assoc at (in_row (s.stored.asked ++ (s.stored.equal ++ (s.meant.asked ++ (s.meant.equal ++ (s.refused ++ s.hypotheses))))) TAKEN 1 0 more (s.taken ∷ []) (s.changed ∷ s.ends ∷ s.broken ∷ []) (simp length-append (omega arith)) refl (lit≤ tt) (lit≤ tt))
+
+  pub at_changed : plus CHANGED 1 0 more (counts s) ≡ counts (record s { changed = sum_of s.changed more })
+  at_changed =
+      simp append_assoc at (in_row (s.stored.asked ++ (s.stored.equal ++ (s.meant.asked ++ (s.meant.equal ++ (s.refused ++ (s.hypotheses ++ (s.taken ∷ []))))))) CHANGED 1 0 more (s.changed ∷ []) (s.ends ∷ s.broken ∷ []) (simp length-append (omega arith)) refl (lit≤ tt) (lit≤ tt))
+
+  pub at_ends : plus ENDS 1 0 more (counts s) ≡ counts (record s { ends = sum_of s.ends more })
+  at_ends =
+      simp append_assoc at (in_row (s.stored.asked ++ (s.stored.equal ++ (s.meant.asked ++ (s.meant.equal ++ (s.refused ++ (s.hypotheses ++ (s.taken ∷ s.changed ∷ []))))))) ENDS 1 0 more (s.ends ∷ []) (s.broken ∷ []) (simp length-append (omega arith)) refl (lit≤ tt) (lit≤ tt))
+
+  pub at_broken : plus BROKEN 1 0 more (counts s) ≡ counts (record s { broken = sum_of s.broken more })
+  at_broken =
+      simp append_assoc at (in_row (s.stored.asked ++ (s.stored.equal ++ (s.meant.asked ++ (s.meant.equal ++ (s.refused ++ (s.hypotheses ++ (s.taken ∷ s.changed ∷ s.ends ∷ []))))))) BROKEN 1 0 more (s.broken ∷ []) [] (simp length-append (omega arith)) refl (lit≤ tt) (lit≤ tt))
+
+  -- what has no place in a row is broken
+  spilt : (first places : ℕ) → places ≤ k → plus first places k more (counts s) ≡ counts (record s { broken = sum_of s.broken more })
+  spilt first places h =
+      simp append_assoc at (no_place (s.stored.asked ++ (s.stored.equal ++ (s.meant.asked ++ (s.meant.equal ++ (s.refused ++ (s.hypotheses ++ (s.taken ∷ s.changed ∷ s.ends ∷ []))))))) first places k more s.broken (simp length-append (omega arith)) h)
+
+  pub at_refused : plus REFUSED NUMBERS k more (counts s) ≡ counts (record s { refused = row_after s.refused k more; broken = broken_after s.refused s.broken k more })
+  at_refused = of (nat_lt k (length s.refused)) refl
+    where
+      of : (t : Bool) → nat_lt k (length s.refused) ≡ t → plus REFUSED NUMBERS k more (counts s) ≡ counts (record s { refused = cond t (added s.refused k more) s.refused; broken = cond t s.broken (sum_of s.broken more) })
+      of true e =
+          let within = ltb-true k (length s.refused) e in
+          simp append_assoc at (in_row (s.stored.asked ++ (s.stored.equal ++ (s.meant.asked ++ s.meant.equal))) REFUSED NUMBERS k more s.refused (s.hypotheses ++ (s.taken ∷ s.changed ∷ s.ends ∷ s.broken ∷ [])) (simp length-append (omega arith)) l.refused (omega arith) (lit≤ tt))
+      of false e = let past = ltb-false k (length s.refused) e in spilt REFUSED NUMBERS (omega arith)
+
+  pub at_hypotheses : plus HYPOTHESIS HYPOTHESES k more (counts s) ≡ counts (record s { hypotheses = row_after s.hypotheses k more; broken = broken_after s.hypotheses s.broken k more })
+  at_hypotheses = of (nat_lt k (length s.hypotheses)) refl
+    where
+      of : (t : Bool) → nat_lt k (length s.hypotheses) ≡ t → plus HYPOTHESIS HYPOTHESES k more (counts s) ≡ counts (record s { hypotheses = cond t (added s.hypotheses k more) s.hypotheses; broken = cond t s.broken (sum_of s.broken more) })
+      of true e =
+          let within = ltb-true k (length s.hypotheses) e in
+          simp append_assoc at (in_row (s.stored.asked ++ (s.stored.equal ++ (s.meant.asked ++ (s.meant.equal ++ s.refused)))) HYPOTHESIS HYPOTHESES k more s.hypotheses (s.taken ∷ s.changed ∷ s.ends ∷ s.broken ∷ []) (simp length-append (omega arith)) l.hypotheses (omega arith) (lit≤ tt))
+      of false e = let past = ltb-false k (length s.hypotheses) e in spilt HYPOTHESIS HYPOTHESES (omega arith)
+
+-- ---- a case of a call in its group
+call_below : (call : Call) → call_number call < CALLS
+call_below FindElements = lit< tt
+call_below FitElements = lit< tt
+call_below EstimateStrong = lit< tt
+call_below ResidualCheck = lit< tt
+call_below SecondCarrierEvidence = lit< tt
+call_below Classify = lit< tt
+call_below Subtract = lit< tt
+call_below Run = lit< tt
+
+length-row_after : (row : List ℕ) (k more : ℕ) → length (row_after row k more) ≡ length row
+length-row_after row k more = of (nat_lt k (length row))
+  where
+    of : (t : Bool) → length (cond t (added row k more) row) ≡ length row
+    of true = length-set row k _
+    of false = refl
+
+module _ (s : Tally) (l : Long s) (call : Call) (equal : Bool) where
+  abbrev in_stored : Tally
+  in_stored = record s { stored = group_after s.stored (call_number call) equal }
+
+  abbrev in_meant : Tally
+  in_meant = record s { meant = group_after s.meant (call_number call) equal }
+
+  long_stored : Long in_stored
+  long_stored = record { stored_asked = length-set s.stored.asked _ _ ∙ l.stored_asked; stored_equal = length-set s.stored.equal _ _ ∙ l.stored_equal; meant_asked = l.meant_asked; meant_equal = l.meant_equal; refused = l.refused; hypotheses = l.hypotheses }
+
+  long_meant : Long in_meant
+  long_meant = record { stored_asked = l.stored_asked; stored_equal = l.stored_equal; meant_asked = length-set s.meant.asked _ _ ∙ l.meant_asked; meant_equal = length-set s.meant.equal _ _ ∙ l.meant_equal; refused = l.refused; hypotheses = l.hypotheses }
+
+  asked_stored : asked_in STORED (call_number call) equal (counts s) ≡ counts in_stored
+  unfolding asked_in
+  asked_stored =
+      let first : Tally = record s { stored = record s.stored { asked = added s.stored.asked (call_number call) 1 } } in
+      let long : Long first = record { stored_asked = length-set s.stored.asked _ _ ∙ l.stored_asked; stored_equal = l.stored_equal; meant_asked = l.meant_asked; meant_equal = l.meant_equal; refused = l.refused; hypotheses = l.hypotheses } in
+      rw (at_stored_asked s l (call_number call) 1 (call_below call)) (at_stored_equal first long (call_number call) (cond equal 1 0) (call_below call))
+
+  asked_meant : asked_in MEANT (call_number call) equal (counts s) ≡ counts in_meant
+  unfolding asked_in
+  asked_meant =
+      let first : Tally = record s { meant = record s.meant { asked = added s.meant.asked (call_number call) 1 } } in
+      let long : Long first = record { stored_asked = l.stored_asked; stored_equal = l.stored_equal; meant_asked = length-set s.meant.asked _ _ ∙ l.meant_asked; meant_equal = l.meant_equal; refused = l.refused; hypotheses = l.hypotheses } in
+      rw (at_meant_asked s l (call_number call) 1 (call_below call)) (at_meant_equal first long (call_number call) (cond equal 1 0) (call_below call))
+
+  pub counted : (meant : Bool) (number : ℕ) (t : Tally) → t ≡ in_group s meant (call_number call) equal → counts (record t { refused = row_after t.refused number (from_bool (not meant)); broken = broken_after t.refused t.broken number (from_bool (not meant)) }) ≡ counted_of (call_number call) meant equal number (counts s)
+  unfolding counted_of
+  counted true number t e = rw (e, asked_meant) (sym (at_refused in_meant long_meant number 0))
+  counted false number t e = rw (e, asked_stored) (sym (at_refused in_stored long_stored number 1))
+
+-- ---- an accepted run
+module _ (s : Tally) (l : Long s) (hypothesis : ℕ) where
+  module _ (taken : Bool) (changed : ℕ) where
+    ran_so : counts (record s { hypotheses = row_after s.hypotheses hypothesis 1; broken = broken_after s.hypotheses s.broken hypothesis 1; taken = sum_of s.taken (cond taken 1 0); changed = sum_of s.changed (cond taken changed 0) }) ≡ ran_of 0 hypothesis taken changed (counts s)
+    unfolding ran_of
+    ran_so =
+        let found : Tally = record s { hypotheses = row_after s.hypotheses hypothesis 1; broken = broken_after s.hypotheses s.broken hypothesis 1 } in
+        let long : Long found = record { stored_asked = l.stored_asked; stored_equal = l.stored_equal; meant_asked = l.meant_asked; meant_equal = l.meant_equal; refused = l.refused; hypotheses = length-row_after s.hypotheses hypothesis 1 ∙ l.hypotheses } in
+        let took : Tally = record found { taken = sum_of s.taken (cond taken 1 0) } in
+        let as_long : Long took = record { stored_asked = l.stored_asked; stored_equal = l.stored_equal; meant_asked = l.meant_asked; meant_equal = l.meant_equal; refused = l.refused; hypotheses = length-row_after s.hypotheses hypothesis 1 ∙ l.hypotheses } in
+        rw (at_hypotheses s l hypothesis 1, at_taken found long 0 (cond taken 1 0)) (sym (at_changed took as_long 0 (cond taken changed 0)))
+
+  pub ran : (taken : Option ℕ) → counts (record s { hypotheses = row_after s.hypotheses hypothesis 1; broken = broken_after s.hypotheses s.broken hypothesis 1; taken = sum_of s.taken (from_bool (is_some taken)); changed = sum_of s.changed (unwrap_or taken 0) }) ≡ ran_of 0 hypothesis (is_some taken) (unwrap_or taken 0) (counts s)
+  ran (Some changed) = ran_so true changed
+  ran None = ran_so false 0
+
+-- ---- a run that is refused adds nothing, where no count is above the largest number
+module _ (t : List ℕ) (within : (i : ℕ) → get_or t i 0 ≤ 2 ^ 64 - 1) where
+  plus_nothing : (first places k : ℕ) → plus first places k 0 t ≡ t
+  unfolding plus
+  plus_nothing first places k =
+      let i = place_of first places k in
+      let same : min (get_or t i 0 + 0) (2 ^ 64 - 1) ≡ get_or t i 0 = omega (arith, within i) in
+      rw same (set-get_or t i 0)
+
+  pub refused_run : (number hypothesis : ℕ) → (number ≡ 0 → ⊥) → ran_of number hypothesis false 0 t ≡ t
+  unfolding ran_of
+  refused_run number hypothesis h =
+      rw (ne_eqb number 0 h, plus_nothing HYPOTHESIS HYPOTHESES hypothesis, plus_nothing TAKEN 1 0) (plus_nothing CHANGED 1 0)

@@ -1,117 +1,101 @@
--- Rows compared number by number: before the first, after a turn, at a number that differs, and at the end.
-use Rattle.std.proofs.Common.{◌≡◌, ℕ, ◌+◌, ◌-◌, ◌*◌, ◌/◌, ◌<◌, ◌≤◌, min, Bool, true, false, not, List, length, sym, refl, ◌∙◌, add-one, arith, eq-eqb, ne_eqb, le-leb}
-use mathlib.Core.Bool.{and-false}
-use borrow.Author.Tests.{lt-leb, not-true, not-false}
-use lib.Ieee.{Float, eq, ne}
+-- A list's items by their places: whether each passes a test, how many do, and the rows that are compared by such tests.
+use Rattle.std.proofs.Common.{◌≡◌, ℕ, zero, suc, ◌+◌, ◌-◌, ◌*◌, ◌/◌, ◌<◌, ◌≤◌, min, Bool, cond, not, List, [], length, get_or, take, drop, filter, zip, Float, refl, ◌∙◌, arith, add-one, length-take, length-drop, take-suc, get_or-drop, le-leb, eq-eqb, lt-ltb, lit<, add-zero}
+use Rattle.std.specs.List.{list_all, count_by}
+use Rattle.std.proofs.lemmas.List.{take_all}
+use Rattle.std.proofs.lemmas.List.Recursion.{and_push}
+use Rattle.std.proofs.lemmas.List.Sums.{sum_by_more, length-filter}
+use Rattle.std.proofs.lemmas.Slice.Zip.{length-zip, get_or-zip}
+use Rattle.std.specs.Float.{nan}
+use Rattle.std.specs.Float.Ieee.{eq}
+use Rattle.lists.specs.Every.{every}
 use Rattle.lists.specs.Count.{count_to}
-use Rattle.lists.proofs.Count.{bit, count_most}
-use Rattle.lists.proofs.Every.{every_not}
-use Rattle.stored.specs.Same.{same_number, same_to, row, stored_row, same_firsts, same_figures, same_sample, changed_to, changed_in, LENT, lent_to, lent_from}
+use Rattle.stored.specs.Same.{same_number, same_to, row, same_firsts, same_figures, stored_row, same_sample, changed_to, changed_in, LENT, lent_to, lent_from}
+use Rattle.stored.specs.Units.{unit_in, long_at, double_at}
+use Rattle.stored.proofs.Chunks.{pieces, length-pieces, get_or-pieces, get_or-piece}
 
-module _ (f g : ℕ → Float) where
-  pub none_differs : same_to f g 0 ≡ true
-  unfolding same_to
-  none_differs = refl
+module _ {A : Type 0} (p : A → Bool) (q : ℕ → Bool) (d : A) (zs : List A) where
+  all_of_first : (n : ℕ) → n ≤ length zs → ((k : ℕ) → k < n → p (get_or zs k d) ≡ q k) → list_all p (take n zs) ≡ every q n
+  all_of_first zero l h = refl
+  all_of_first (suc n) l h =
+      rw (take-suc zs n d (omega arith), and_push (list_all p) p refl (λ _ _. refl) (take n zs) (get_or zs n d), all_of_first n (omega arith) (λ k b. h k (omega arith)), h n (omega arith))
 
-  pub one_more : (i : ℕ) (t : Bool) → same_to f g i ≡ true → t ≡ same_number (f i) (g i) → t ≡ true → same_to f g (i + 1) ≡ true
-  unfolding same_to
-  one_more i t p e h = rw (add-one, p, ← e) h
+  count_of_first : (n : ℕ) → n ≤ length zs → ((k : ℕ) → k < n → p (get_or zs k d) ≡ q k) → count_by p (take n zs) ≡ count_to q n
+  unfolding count_to
+  count_of_first zero l h = refl
+  count_of_first (suc n) l h =
+      rw (← add-one n) (sum_by_more (λ x. cond (p x) 1 0) zs n d (omega arith) ∙ rw (count_of_first n (omega arith) (λ k b. h k (omega arith)), h n (omega arith)))
 
-  pub one_differs : (n i : ℕ) (t : Bool) → i < n → t ≡ same_number (f i) (g i) → t ≡ false → same_to f g n ≡ false
-  unfolding same_to
-  one_differs n i t l e h = every_not (λ k. same_number (f k) (g k)) n i l (sym e ∙ h)
+  pub all_by_place : (n : ℕ) → length zs ≡ n → ((k : ℕ) → k < n → p (get_or zs k d) ≡ q k) → list_all p zs ≡ every q n
+  all_by_place n e h = rw (take_all n zs (omega arith)) at (all_of_first n (omega arith) h)
 
--- ---- lists
-module _ (a b : List Float) (n : ℕ) where
-  pub left_short : length a < n → false ≡ same_firsts a b n
-  unfolding same_firsts
-  left_short h = sym (rw (lt-leb n (length a) h))
+  pub count_by_place : (n : ℕ) → length zs ≡ n → ((k : ℕ) → k < n → p (get_or zs k d) ≡ q k) → length (filter p zs) ≡ count_to q n
+  count_by_place n e h = length-filter p zs ∙ (rw (take_all n zs (omega arith)) at (count_of_first n (omega arith) h))
 
-  pub right_short : length b < n → false ≡ same_firsts a b n
-  unfolding same_firsts
-  right_short h = sym (rw (lt-leb n (length b) h, and-false))
+-- ---- pairs of numbers, one of each row
+abbrev pub same_pair : Float × Float → Bool
+same_pair z = same_number z.0 z.1
 
-  pub firsts_are : (t : Bool) → n ≤ length a → n ≤ length b → same_to (row a) (row b) n ≡ t → t ≡ same_firsts a b n
-  unfolding same_firsts
-  firsts_are t p q h = sym (rw (le-leb n (length a) p, le-leb n (length b) q) h)
+-- ---- a figure, and the bytes that are stored of it
+abbrev pub same_stored : Float × List ℕ → Bool
+same_stored z = same_number z.0 (double_at z.1 0)
 
-  pub firsts_differ : (i : ℕ) (t : Bool) → i < n → n ≤ length a → n ≤ length b → t ≡ same_number (row a i) (row b i) → t ≡ false → false ≡ same_firsts a b n
-  firsts_differ i t l p q e h = firsts_are false p q (one_differs (row a) (row b) n i t l e h)
+-- ---- the floats of a sample in two rows
+abbrev pub differ : List Float × List Float → Bool
+differ z = not (same_firsts z.0 z.1 (length z.0))
 
-  pub firsts_same : (i : ℕ) → n ≤ i → i ≤ n → n ≤ length a → n ≤ length b → same_to (row a) (row b) i ≡ true → true ≡ same_firsts a b n
-  firsts_same i l m p q h = let all : i ≡ n = omega arith in firsts_are true p q (rw all at h)
-
--- ---- figures
-module _ (figures : List Float) (stored : List ℕ) where
-  pub other_count : (length stored ≡ 8 * length figures → ⊥) → false ≡ same_figures figures stored
-  unfolding same_figures
-  other_count h = sym (rw (ne_eqb (length stored) (8 * length figures) h))
-
-  pub figures_are : (t : Bool) → length stored ≡ 8 * length figures → same_to (row figures) (stored_row stored) (length figures) ≡ t → t ≡ same_figures figures stored
-  unfolding same_figures
-  figures_are t e h = sym (rw (eq-eqb (length stored) (8 * length figures) e) h)
-
-  module _ (i : ℕ) (x : Float) (t : Bool) (read : x ≡ stored_row stored i) (compared : t ≡ same_number (row figures i) x) where
-    pub figure_more : same_to (row figures) (stored_row stored) i ≡ true → t ≡ true → same_to (row figures) (stored_row stored) (i + 1) ≡ true
-    figure_more p h = one_more (row figures) (stored_row stored) i t p (rw read at compared) h
-
-    pub figure_differs : i < length figures → length stored ≡ 8 * length figures → t ≡ false → false ≡ same_figures figures stored
-    figure_differs l p h = figures_are false p (one_differs (row figures) (stored_row stored) (length figures) i t l (rw read at compared) h)
-
-  pub figures_same : (i : ℕ) → length figures ≤ i → i ≤ length figures → length stored ≡ 8 * length figures → same_to (row figures) (stored_row stored) i ≡ true → true ≡ same_figures figures stored
-  figures_same i l m p h = let all : i ≡ length figures = omega arith in figures_are true p (rw all at h)
-
--- ---- samples
-module _ (a b : List Float) (k : ℕ) where
-  pub real_differs : (t : Bool) → t ≡ same_number (row a (2 * k)) (row b (2 * k)) → t ≡ false → ◌≡◌ {A = ℕ} 1 (bit (not (same_sample a b k)))
-  unfolding same_sample
-  real_differs t e h = rw (← e, h)
-
-  pub imaginary_differs : (t : Bool) → t ≡ same_number (row a (2 * k + 1)) (row b (2 * k + 1)) → t ≡ false → ◌≡◌ {A = ℕ} 1 (bit (not (same_sample a b k)))
-  unfolding same_sample
-  imaginary_differs t e h = rw (← e, h, and-false)
-
-  pub sample_same : (s t : Bool) → s ≡ same_number (row a (2 * k)) (row b (2 * k)) → s ≡ true → t ≡ same_number (row a (2 * k + 1)) (row b (2 * k + 1)) → t ≡ true → ◌≡◌ {A = ℕ} 0 (bit (not (same_sample a b k)))
-  unfolding same_sample
-  sample_same s t e h f g = rw (← e, h, ← f, g)
-
--- ---- samples counted
 module _ (a b : List Float) where
-  pub changed_none : ◌≡◌ {A = ℕ} 0 (changed_to a b 0)
-  unfolding changed_to count_to
-  changed_none = refl
+  pair_at : (k : ℕ) → k < length a → k < length b → same_pair (get_or (zip a b) k (nan, nan)) ≡ same_number (row a k) (row b k)
+  pair_at k h g = rw (get_or-zip a b k (nan, nan) h g)
 
-  pub changed_turn : (k sum d : ℕ) → sum ≡ changed_to a b k → d ≡ bit (not (same_sample a b k)) → sum + d ≡ changed_to a b (k + 1)
-  unfolding changed_to count_to
-  changed_turn k sum d p e = rw (add-one, p, e)
+  pub firsts_by_pairs : (n : ℕ) → n ≤ length a → n ≤ length b → list_all same_pair (take n (zip a b)) ≡ same_firsts a b n
+  unfolding same_firsts same_to
+  firsts_by_pairs n p q =
+      rw (le-leb n (length a) p, le-leb n (length b) q) (all_of_first same_pair (λ k. same_number (row a k) (row b k)) (nan, nan) (zip a b) n (omega (arith, length-zip a b)) (λ k h. pair_at k (omega arith) (omega arith)))
 
-  pub changed_few : (k sum : ℕ) → sum ≡ changed_to a b k → sum ≤ k
+  pub rows_by_pairs : length a ≤ length b → list_all same_pair (zip a b) ≡ same_firsts a b (length a)
+  rows_by_pairs p = rw (take_all (length a) (zip a b) (omega (arith, length-zip a b))) at (firsts_by_pairs (length a) (omega arith) p)
+
+-- ---- what is left of a row from one place on
+pub lent_by_items : (l : List Float) (from : ℕ) → list_all (λ x. eq x LENT) (drop from l) ≡ lent_from l from
+unfolding lent_to
+lent_by_items l from =
+    all_by_place (λ x. eq x LENT) (λ k. eq (row l (from + k)) LENT) nan (drop from l) (length l - from) (length-drop from l) (λ k h. rw get_or-drop refl)
+
+-- ---- figures, and the pieces of eight bytes that are stored of them
+module _ (bytes : List ℕ) (k : ℕ) (h : k < length bytes / 8) where
+  unit_of_piece : (j : ℕ) → j < 2 → unit_in (take 8 (drop (k * 8) bytes)) j ≡ unit_in bytes (2 * k + j)
+  unfolding unit_in
+  unit_of_piece j g =
+      let long : length (take 8 (drop (k * 8) bytes)) ≡ 8 = simp (length-take, length-drop) (omega arith) in
+      rw (lt-ltb j (length (take 8 (drop (k * 8) bytes)) / 4) (omega arith), lt-ltb (2 * k + j) (length bytes / 4) (omega arith), get_or-piece 8 k (4 * j) (4 * (2 * k + j)) bytes 0 (omega arith) (omega arith), get_or-piece 8 k (4 * j + 1) (4 * (2 * k + j) + 1) bytes 0 (omega arith) (omega arith), get_or-piece 8 k (4 * j + 2) (4 * (2 * k + j) + 2) bytes 0 (omega arith) (omega arith), get_or-piece 8 k (4 * j + 3) (4 * (2 * k + j) + 3) bytes 0 (omega arith) (omega arith)) refl
+
+  double_of_piece : double_at (take 8 (drop (k * 8) bytes)) 0 ≡ double_at bytes (2 * k)
+  unfolding double_at long_at
+  double_of_piece = rw (unit_of_piece 0 (lit< tt), unit_of_piece 1 (lit< tt), add-zero (2 * k)) refl
+
+module _ (figures : List Float) (stored : List ℕ) (e : length stored ≡ 8 * length figures) where
+  figure_at : (k : ℕ) → k < length figures → same_stored (get_or (zip figures (pieces 8 (length stored / 8) stored)) k (nan, [])) ≡ same_number (row figures k) (stored_row stored k)
+  figure_at k h =
+      let many = length-pieces 8 (length stored / 8) stored in
+      rw (get_or-zip figures (pieces 8 (length stored / 8) stored) k (nan, []) h (omega arith), get_or-pieces 8 (length stored / 8) k stored [] (omega arith), double_of_piece stored k (omega arith)) refl
+
+  pub figures_by_pairs : list_all same_stored (zip figures (pieces 8 (length stored / 8) stored)) ≡ same_figures figures stored
+  unfolding same_figures same_to
+  figures_by_pairs =
+      rw (eq-eqb (length stored) (8 * length figures) e) (all_by_place same_stored (λ k. same_number (row figures k) (stored_row stored k)) (nan, []) (zip figures (pieces 8 (length stored / 8) stored)) (length figures) (omega (arith, length-zip figures (pieces 8 (length stored / 8) stored), length-pieces 8 (length stored / 8) stored)) figure_at)
+
+-- ---- samples, two floats each
+module _ (a b : List Float) where
+  sample_of_pieces : (k : ℕ) → k < length a / 2 → k < length b / 2 → differ (take 2 (drop (k * 2) a), take 2 (drop (k * 2) b)) ≡ not (same_sample a b k)
+  unfolding same_firsts same_to same_sample
+  sample_of_pieces k h g =
+      let long : length (take 2 (drop (k * 2) a)) ≡ 2 = simp (length-take, length-drop) (omega arith) in
+      let as_long : length (take 2 (drop (k * 2) b)) ≡ 2 = simp (length-take, length-drop) (omega arith) in
+      rw (long, as_long, get_or-piece 2 k 0 (2 * k) a nan (lit< tt) (omega arith), get_or-piece 2 k 0 (2 * k) b nan (lit< tt) (omega arith), get_or-piece 2 k 1 (2 * k + 1) a nan (lit< tt) (omega arith), get_or-piece 2 k 1 (2 * k + 1) b nan (lit< tt) (omega arith)) refl
+
+  pub changed_by_pairs : length (filter differ (zip (pieces 2 (length a / 2) a) (pieces 2 (length b / 2) b))) ≡ changed_in a b
   unfolding changed_to
-  changed_few k sum e = rw e (count_most (λ i. not (same_sample a b i)) k)
-
-  pub changed_done : (n k sum : ℕ) → n ≡ min (length a / 2) (length b / 2) → n ≤ k → k ≤ n → sum ≡ changed_to a b k → sum ≡ changed_in a b
-  changed_done n k sum e p q h = let all : k ≡ n = omega arith in rw (← e, ← all) h
-
-  pub one_at_most : (k d : ℕ) → d ≡ bit (not (same_sample a b k)) → d ≤ 1
-  one_at_most k d e = rw e (of (not (same_sample a b k)))
-    where
-      of : (t : Bool) → bit t ≤ 1
-      of true = omega arith
-      of false = omega arith
-
--- ---- what is as it was lent
-module _ (l : List Float) (from : ℕ) where
-  pub lent_none : lent_to l from 0 ≡ true
-  unfolding lent_to
-  lent_none = refl
-
-  pub lent_more : (k : ℕ) → lent_to l from k ≡ true → ne (row l (from + k)) LENT ≡ false → lent_to l from (k + 1) ≡ true
-  unfolding lent_to ne
-  lent_more k p h = rw (add-one, p) (not-false (eq (row l (from + k)) LENT) h)
-
-  pub lent_not : (n k : ℕ) → n ≡ length l - from → k < n → ne (row l (from + k)) LENT ≡ true → false ≡ lent_from l from
-  unfolding lent_to ne
-  lent_not n k e q h = sym (every_not (λ i. eq (row l (from + i)) LENT) (length l - from) k (omega arith) (not-true (eq (row l (from + k)) LENT) h))
-
-  pub lent_done : (n k : ℕ) → n ≡ length l - from → n ≤ k → k ≤ n → lent_to l from k ≡ true → true ≡ lent_from l from
-  lent_done n k e p q h = let all : k ≡ length l - from = omega arith in sym (rw all at h)
+  changed_by_pairs =
+      let many = length-pieces 2 (length a / 2) a in
+      let as_many = length-pieces 2 (length b / 2) b in
+      count_by_place differ (λ k. not (same_sample a b k)) ([], []) (zip (pieces 2 (length a / 2) a) (pieces 2 (length b / 2) b)) (min (length a / 2) (length b / 2)) (omega (arith, length-zip (pieces 2 (length a / 2) a) (pieces 2 (length b / 2) b))) (λ k h. rw (get_or-zip (pieces 2 (length a / 2) a) (pieces 2 (length b / 2) b) k ([], []) (omega arith) (omega arith), get_or-pieces 2 (length a / 2) k a [] (omega arith), get_or-pieces 2 (length b / 2) k b [] (omega arith)) (sample_of_pieces k (omega arith) (omega arith)))

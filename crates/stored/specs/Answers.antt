@@ -1,5 +1,7 @@
 -- When what a call answered and left is what is stored of it. Definitions only.
-use Rattle.std.specs.Prelude.{ℕ, ◌-◌, ◌%◌, Bool, cond, ◌&&◌, List, length, ◌==◌, Float}
+use Rattle.std.specs.Prelude.{ℕ, ◌-◌, ◌%◌, Bool, cond, ◌&&◌, ◌≡◌, List, length, ◌==◌, Float, Some, None, MatchResult}
+use Rattle.stored.specs.declared.answer.Answered.{Answered}
+use Rattle.stored.specs.declared.answer.Ran.{Ran}
 use Rattle.stored.specs.Same.{same_firsts, same_figures, lent_from}
 
 -- a refusal: by the stored number, and every list and the work slice as lent
@@ -21,3 +23,7 @@ filled_same list width stored n = same_firsts list stored n && lent_from list (l
 -- the buffer after an accepted call: as stored where the Rust changes it, else as it was
 unfoldable pub left_same : ℕ → Bool → List Float → List Float → List Float → Bool
 left_same stored changed buf iq left = stored == 0 && same_firsts buf (cond changed left iq) (length buf)
+
+-- what came of a run, as of any call: the same verdict, and its number where it is refused
+abbrev pub AnsweredBy : Ran → Answered → Type 0
+AnsweredBy ran a = (a.equal ≡ ran.equal) × MatchResult ran.answer (λ _. a.refused ≡ None) (λ no. a.refused ≡ Some no)

@@ -1,5 +1,6 @@
 -- What is counted, and where (crates/replay/README.md). Definitions only.
-use Rattle.std.specs.Prelude.{ℕ, ◌+◌, ◌-◌, ◌^◌, min, Bool, cond, not, ◌&&◌, List, ◌==◌, nat_lt, slice_index, slice_set}
+use Rattle.std.specs.Prelude.{ℕ, ◌+◌, ◌-◌, ◌^◌, min, Bool, cond, not, ◌&&◌, List, [], ◌∷◌, ◌++◌, ◌==◌, nat_lt, slice_index, slice_set}
+use Rattle.stored.specs.declared.tally.Tally.{Tally}
 
 -- ---- as many calls, numbers of a refusal and hypotheses as there is room for
 abbrev pub CALLS : ℕ
@@ -73,3 +74,8 @@ counted_of call meant equal number t =
 unfoldable pub ran_of : ℕ → ℕ → Bool → ℕ → List ℕ → List ℕ
 ran_of number hypothesis taken changed t =
     plus CHANGED 1 0 (cond taken changed 0) (plus TAKEN 1 0 (cond taken 1 0) (plus HYPOTHESIS HYPOTHESES hypothesis (cond (number == 0) 1 0) t))
+
+-- ---- the program's counts, which have names, in the order of those places
+abbrev pub counts : Tally → List ℕ
+counts t =
+    t.stored.asked ++ (t.stored.equal ++ (t.meant.asked ++ (t.meant.equal ++ (t.refused ++ (t.hypotheses ++ (t.taken ∷ t.changed ∷ t.ends ∷ t.broken ∷ []))))))

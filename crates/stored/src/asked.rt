@@ -1,4 +1,7 @@
 // What a stored case asks of a call, and what it then has to find.
+ghost use Rattle.std.specs.Prelude.{◌≡◌};
+ghost use Rattle.std.specs.Option.{unwrap_or};
+
 use crate::units::{count, double, long};
 
 #[derive(Clone, Copy)]
@@ -18,11 +21,22 @@ pub struct Asked {
     pub element_count: usize,
     pub given_fits: usize,
     pub fit_count: usize,
-    // The Rust's answer: 0 or the refusal's number; whether the buffer is changed; how many numbers each list has.
-    pub no: u64,
+    // The Rust's answer: the number of its refusal, none where it accepts; whether the buffer is changed; how many numbers
+    // each list has.
+    pub refused: Option<u64>,
     pub changed: bool,
     pub listed: usize,
     pub fitted: usize,
+}
+
+// The refusal of a stored number, in which 0 stands for none.
+fn refusal(number: u64) -> Option<u64>
+    ensures { unwrap_or result 0 ≡ number }
+{
+    match number {
+        0 => None,
+        _ => Some(number),
+    }
 }
 
 pub fn of_case(body: &[u8]) -> Asked {
@@ -39,7 +53,7 @@ pub fn of_case(body: &[u8]) -> Asked {
         element_count: long(body, 13) as usize,
         given_fits: count(body, 15),
         fit_count: long(body, 16) as usize,
-        no: count(body, 18) as u64,
+        refused: refusal(count(body, 18) as u64),
         changed: count(body, 19) != 0,
         listed: count(body, 20),
         fitted: count(body, 21),
@@ -48,9 +62,5 @@ pub fn of_case(body: &[u8]) -> Asked {
 
 // The figures of the Rust's answer, which follow from byte `from` on.
 pub fn figures_from(body: &[u8], from: usize) -> &[u8] {
-    if from <= body.len() {
-        &body[from..]
-    } else {
-        body
-    }
+    body.get(from..).unwrap_or(body)
 }

@@ -11,60 +11,32 @@ fn part(stored: u32, scale: f32) -> f32 {
 // A recording: its count of floats, the scale, and then 16 bits for each float.
 pub fn recording(body: &[u8], iq: &mut [f32]) {
     let scale = single(body, 1);
-    let n = float::least(count(body, 0), iq.len());
-    for i in 0..n {
-        iq[i] = part(half(body, 4 + i), scale);
+    for (i, float) in iq.iter_mut().take(count(body, 0)).enumerate() {
+        *float = part(half(body, 4 + i), scale);
     }
 }
 
 // Floats of any bits: where the first goes, and then a unit for each.
 pub fn floats(body: &[u8], row: &mut [f32]) {
-    let first = count(body, 0);
-    if body.len() < 4 {
+    let Some(units) = body.get(4..) else {
         return;
+    };
+    if let Some(places) = row.get_mut(count(body, 0)..) {
+        if units.len() / 4 <= places.len() {
+            format::samples(units, places);
+        }
     }
-    if row.len() < first {
-        return;
-    }
-    if row.len() - first < (body.len() - 4) / 4 {
-        return;
-    }
-    format::samples(&body[4..], &mut row[first..]);
 }
 
 // The floats of one row to the start of another.
 pub fn copied(from: &[f32], to: &mut [f32]) {
-    let n = float::least(from.len(), to.len());
-    for i in 0..n {
-        to[i] = from[i];
-    }
+    let n = from.len().min(to.len());
+    to[..n].copy_from_slice(&from[..n]);
 }
 
 // A list of numbers.
 pub fn list(body: &[u8], row: &mut [f64]) {
-    let n = float::least(body.len() / 8, row.len());
-    for i in 0..n {
-        row[i] = double(body, 2 * i);
+    for (number, bytes) in row.iter_mut().zip(body.chunks_exact(8)) {
+        *number = double(bytes, 0);
     }
-}
-
-// A record that puts numbers into what is kept; answers whether its kind is known.
-pub fn put(
-    kind: usize,
-    body: &[u8],
-    iq: &mut [f32],
-    left: &mut [f32],
-    stored_elements: &mut [f64],
-    stored_fits: &mut [f64],
-) -> bool {
-    match kind {
-        1 => recording(body, iq),
-        2 => floats(body, iq),
-        3 => copied(iq, left),
-        4 => floats(body, left),
-        5 => list(body, stored_elements),
-        6 => list(body, stored_fits),
-        _ => return false,
-    }
-    true
 }

@@ -6,6 +6,8 @@ pub mod answer;
 pub mod asked;
 pub mod equal;
 pub mod kept;
+pub mod kind;
+pub mod records;
 pub mod tally;
 pub mod told;
 pub mod units;

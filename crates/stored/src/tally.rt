@@ -1,98 +1,133 @@
-// What is counted, each at its place in a row of counts.
-ghost use Rattle.std.specs.Prelude.{◌≡◌, ◌+◌, ◌-◌, ◌^◌, ◌<◌, ◌≤◌, min, if◌then◌else◌};
-ghost use Rattle.stored.specs.Tally.{PLACES, STORED, MEANT, place_of, plus};
+// What is counted.
+ghost use Rattle.std.specs.Prelude.{◌≡◌, replicate, is_some, MatchResult, if◌then◌else◌};
+ghost use Rattle.std.specs.Option.{unwrap_or};
+ghost use Rattle.stored.specs.Tally.{PLACES, ENDS, BROKEN, plus, counted_of, ran_of, counts};
+ghost use Rattle.stored.specs.Inner.{group_after, in_group, row_after, broken_after};
+ghost use Rattle.stored.specs.Kinds.{call_number};
+
+use crate::answer::{Answered, Ran};
+use crate::kind::Call;
 
 // As many calls, numbers of a refusal (0 stands for what is accepted) and hypotheses as there is room for.
-pub const CALLS: usize = 24;
+const CALLS: usize = 24;
 
-pub const NUMBERS: usize = 20;
+const NUMBERS: usize = 20;
 
-pub const HYPOTHESES: usize = 4;
+const HYPOTHESES: usize = 4;
 
-// In a group of cases the calls, in the order of crates/replay/README.md: how many were asked, and how many of them are
-// equal.
-pub const ASKED: usize = 0;
-
-pub const EQUAL: usize = ASKED + CALLS;
-
-const GROUP: usize = EQUAL + CALLS;
-
-// Where the two groups begin: cases with the Rust's answer, and those where one bit of it was changed, which are meant
-// to differ.
-pub const STORED: usize = 0;
-
-pub const MEANT: usize = STORED + GROUP;
-
-// Refusals, by their number.
-pub const REFUSED: usize = MEANT + GROUP;
-
-// Accepted runs, by their hypothesis.
-pub const HYPOTHESIS: usize = REFUSED + NUMBERS;
-
-// Runs that said taken, and the samples that they changed.
-pub const TAKEN: usize = HYPOTHESIS + HYPOTHESES;
-
-pub const CHANGED: usize = TAKEN + 1;
-
-// Ends of the stored answers.
-pub const ENDS: usize = CHANGED + 1;
-
-// Records that are not whole or of no known kind, and what has no place of its own.
-pub const BROKEN: usize = ENDS + 1;
-
-pub const PLACES: usize = BROKEN + 1;
-
-// Where the group of a case begins.
-pub fn group_of(meant: bool) -> usize
-    ensures { (result ≡ (if meant then MEANT else STORED)) × (result ≤ MEANT) }
-{
-    if meant { MEANT } else { STORED }
+// A group of cases, call by call: how many were asked, and how many of them are equal.
+#[derive(Clone, Copy)]
+pub struct Group {
+    pub asked: [u64; CALLS],
+    pub equal: [u64; CALLS],
 }
 
-pub fn only_if(yes: bool, n: u64) -> u64
-    ensures { result ≡ (if yes then n else 0) }
-{
-    if yes { n } else { 0 }
-}
+impl Group {
+    const NONE: Group = Group {
+        asked: [0; CALLS],
+        equal: [0; CALLS],
+    };
 
-// A sum that stops at the largest number.
-pub fn sum(a: u64, b: u64) -> u64
-    ensures { result ≡ min (a + b) (2 ^ 64 - 1) }
-{
-    if a <= 0xffff_ffff_ffff_ffff - b {
-        a + b
-    } else {
-        0xffff_ffff_ffff_ffff
+    // Counts a case of a call: that it was asked, and whether it is equal.
+    fn count(&mut self, call: Call, equal: bool)
+        ensures { self.new ≡ group_after self.old (call_number call) equal }
+    {
+        let k = call.number();
+        self.asked[k] = self.asked[k].saturating_add(1);
+        self.equal[k] = self.equal[k].saturating_add(u64::from(equal));
     }
 }
 
-// The place that is k after the first of its kind, of which there are so many.
-fn place(first: usize, places: usize, k: usize) -> usize
-    ensures { (result ≡ place_of first places k) × (result < PLACES) }
+#[derive(Clone, Copy)]
+pub struct Tally {
+    // Cases with the Rust's answer, and those where one bit of it was changed, which are meant to differ.
+    pub stored: Group,
+    pub meant: Group,
+    // Refusals of the first, by their number.
+    pub refused: [u64; NUMBERS],
+    // Accepted runs, by their hypothesis.
+    pub hypotheses: [u64; HYPOTHESES],
+    // Runs that said taken, and the samples that they changed.
+    pub taken: u64,
+    pub changed: u64,
+    // Ends of the stored answers.
+    pub ends: u64,
+    // Records that are not whole or of no known kind, and what has no place of its own.
+    pub broken: u64,
+}
+
+// Counts at place k of a row. What has no place there is counted as broken, so that nothing is lost.
+fn add(row: &mut [u64], broken: &mut u64, k: usize, more: u64)
+    ensures row_is { row.new ≡ row_after row.old k more }
+    ensures broken_is { broken.new ≡ broken_after row.old broken.old k more }
 {
-    if k < places {
-        if first < PLACES {
-            if k < PLACES - first {
-                return first + k;
-            }
+    if k < row.len() {
+        row[k] = row[k].saturating_add(more);
+    } else {
+        *broken = broken.saturating_add(more);
+    }
+}
+
+impl Tally {
+    pub fn new() -> Tally
+        ensures { counts result ≡ replicate PLACES 0 }
+    {
+        Tally {
+            stored: Group::NONE,
+            meant: Group::NONE,
+            refused: [0; NUMBERS],
+            hypotheses: [0; HYPOTHESES],
+            taken: 0,
+            changed: 0,
+            ends: 0,
+            broken: 0,
         }
     }
-    BROKEN
-}
 
-// Counts there. What has no place is counted as broken, so that nothing is lost.
-pub fn add(tally: &mut [u64; PLACES], first: usize, places: usize, k: usize, more: u64)
-    ensures { tally.new ≡ plus first places k more tally.old }
-{
-    let i = place(first, places, k);
-    tally[i] = sum(tally[i], more);
-}
-
-// Of all calls.
-pub fn all(tally: &[u64; PLACES], first: usize) -> u64 {
-    let mut total = 0;
-    for k in 0..CALLS {
-        total = sum(total, tally[place(first, CALLS, k)]);
+    // Counts a case of a call in its group.
+    fn count_in_group(&mut self, call: Call, meant: bool, equal: bool)
+        ensures { self.new ≡ in_group self.old meant (call_number call) equal }
+    {
+        if meant {
+            self.meant.count(call, equal);
+        } else {
+            self.stored.count(call, equal);
+        }
     }
-    total
+
+    // Counts a case of a call, and its number unless it is meant to differ.
+    pub fn count(&mut self, call: Call, meant: bool, a: Answered)
+        ensures { counts self.new ≡ counted_of (call_number call) meant a.equal (unwrap_or a.refused 0) (counts self.old) }
+    {
+        self.count_in_group(call, meant, a.equal);
+        let number = a.refused.unwrap_or(0) as usize;
+        let more = u64::from(!meant);
+        add(&mut self.refused, &mut self.broken, number, more);
+    }
+
+    // What a run adds to that, where it is accepted.
+    pub fn count_run(&mut self, r: Ran)
+        ensures { MatchResult r.answer (λ found. counts self.new ≡ ran_of 0 found.hypothesis (is_some found.taken) (unwrap_or found.taken 0) (counts self.old)) (λ _. self.new ≡ self.old) }
+    {
+        let Ok(found) = r.answer else {
+            return;
+        };
+        add(&mut self.hypotheses, &mut self.broken, found.hypothesis, 1);
+        self.taken = self.taken.saturating_add(u64::from(found.taken.is_some()));
+        self.changed = self.changed.saturating_add(found.taken.unwrap_or(0));
+    }
+
+    // Counts an end of the stored answers.
+    pub fn count_end(&mut self)
+        ensures { counts self.new ≡ plus ENDS 1 0 1 (counts self.old) }
+    {
+        self.ends = self.ends.saturating_add(1);
+    }
+
+    // Counts a record that is not whole or of no known kind.
+    pub fn count_broken(&mut self)
+        ensures { counts self.new ≡ plus BROKEN 1 0 1 (counts self.old) }
+    {
+        self.broken = self.broken.saturating_add(1);
+    }
 }

@@ -14,8 +14,8 @@ use Rattle.row.proofs.Steps.{rate_is}
 use Rattle.elements.specs.declared.amplitude.AmplitudeRow.{AmplitudeRow}
 use Rattle.lists.specs.Records.{Handed, handed}
 use Rattle.elements.specs.Find.{amplitude_row_of}
-use Rattle.strong.specs.declared.amplitude.RowAnswer.{RowAnswer}
-use Rattle.strong.specs.declared.amplitude.RowAnswer.TheVariants.{Refused, Done}
+use Rattle.std.specs.Prelude.{Result, Ok, Err}
+use Rattle.questions.specs.declared.refusals.Refusal.{Refusal}
 use Rattle.questions.specs.Answers.{accepted, refused}
 use Rattle.questions.specs.Questions.{first_no, ask, count_ok, carrier_ok, places_ok, work_ok}
 use Rattle.strong.specs.Amplitude.{row_questions, RowResult, row_rule, row_outcome}
@@ -65,12 +65,12 @@ module _ (iq : List Float) (fs hz : Float) (row work : List Float) where
   unfolding row_rule
   row_number n lent e = refused_asked _ _ _ n lent e
 
-  -- What 01 accepts is never refused: with a yes to each question, 1 to 6, the answer is Done, with the result of 01.
+  -- What 01 accepts is never refused: with a yes to each question, 1 to 6, the answer is Ok, with the result of 01.
   pub row_accepts : rate_ok fs ≡ true → count_ok (length iq) ≡ true → all_finite iq ≡ true → carrier_ok fs hz ≡ true
       → places_ok (row_length iq fs) (length row) ≡ true → work_ok (step_blocks iq fs) (length work) ≡ true
-      → (a : RowAnswer) (row-after work-after : List Float) → row_outcome a row-after work-after ≡ row_rule iq fs hz row work
-      → a ≡ Done (amplitude_row_of iq fs hz)
+      → (a : Result AmplitudeRow Refusal) (row-after work-after : List Float) → row_outcome a row-after work-after ≡ row_rule iq fs hz row work
+      → a ≡ Ok (amplitude_row_of iq fs hz)
   unfolding row_rule
-  row_accepts rate count finite carrier places room (Refused n) row-after work-after e =
-      absurd (never_refused _ _ _ n _ e (rate, (count, (finite, (carrier, (places, (room, tt)))))))
-  row_accepts rate count finite carrier places room (Done r) row-after work-after e = ap Done (row_done _ e).0
+  row_accepts rate count finite carrier places room (Err r) row-after work-after e =
+      absurd (never_refused _ _ _ _ _ e (rate, (count, (finite, (carrier, (places, (room, tt)))))))
+  row_accepts rate count finite carrier places room (Ok r) row-after work-after e = ap Ok (row_done _ e).0

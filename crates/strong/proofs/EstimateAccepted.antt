@@ -16,8 +16,8 @@ use Rattle.fits.specs.declared.fit.ElementFit.{ElementFit}
 use Rattle.fits.specs.declared.estimate.Estimate.{Estimate}
 use Rattle.fits.specs.List.{FIT}
 use Rattle.fits.specs.Estimate.{strong_estimate, strong_elements, strong_fits}
-use Rattle.strong.specs.declared.estimate.EstimateAnswer.{EstimateAnswer}
-use Rattle.strong.specs.declared.estimate.EstimateAnswer.TheVariants.{Refused, Done}
+use Rattle.std.specs.Prelude.{Result, Ok, Err}
+use Rattle.questions.specs.declared.refusals.Refusal.{Refusal}
 use Rattle.questions.specs.Answers.{accepted, refused}
 use Rattle.questions.specs.Questions.{first_no, ask, count_ok, carrier_ok, places_ok, work_ok, estimate_questions}
 use Rattle.strong.specs.Estimate.{EstimateResult, estimate_rule, estimate_outcome}
@@ -67,13 +67,13 @@ module _ (iq : List Float) (fs hint : Float) (elements fits work : List Float) w
   unfolding estimate_rule
   estimate_number n lent e = refused_asked _ _ _ n lent e
 
-  -- What 01 accepts is never refused: with a yes to each question, 1 to 6, the fifth of two lists, the answer is Done,
+  -- What 01 accepts is never refused: with a yes to each question, 1 to 6, the fifth of two lists, the answer is Ok,
   -- with the result of 01.
   pub estimate_accepts : rate_ok fs ≡ true → count_ok (length iq) ≡ true → all_finite iq ≡ true → carrier_ok fs hint ≡ true
       → places_ok (step_blocks iq fs / 2) (length elements / ELEMENT) ≡ true → places_ok (step_blocks iq fs / 2) (length fits / FIT) ≡ true
-      → work_ok (step_blocks iq fs) (length work) ≡ true → (a : EstimateAnswer) (elements-after fits_after work-after : List Float)
-      → estimate_outcome a elements-after fits_after work-after ≡ estimate_rule iq fs hint elements fits work → a ≡ Done (strong_estimate iq fs hint)
+      → work_ok (step_blocks iq fs) (length work) ≡ true → (a : Result Estimate Refusal) (elements-after fits_after work-after : List Float)
+      → estimate_outcome a elements-after fits_after work-after ≡ estimate_rule iq fs hint elements fits work → a ≡ Ok (strong_estimate iq fs hint)
   unfolding estimate_rule
-  estimate_accepts rate count finite carrier places fit_places room (Refused n) elements-after fits_after work-after e =
-      absurd (never_refused _ _ _ n _ e (rate, (count, (finite, (carrier, (places, (fit_places, (room, tt))))))))
-  estimate_accepts rate count finite carrier places fit_places room (Done d) elements-after fits_after work-after e = ap Done (estimate_done _ e).1
+  estimate_accepts rate count finite carrier places fit_places room (Err r) elements-after fits_after work-after e =
+      absurd (never_refused _ _ _ _ _ e (rate, (count, (finite, (carrier, (places, (fit_places, (room, tt))))))))
+  estimate_accepts rate count finite carrier places fit_places room (Ok d) elements-after fits_after work-after e = ap Ok (estimate_done _ e).1

@@ -13,8 +13,8 @@ use Rattle.elements.specs.declared.keying.Found.{Found}
 use Rattle.lists.specs.Records.{Handed, handed}
 use Rattle.elements.specs.Element.{ELEMENT}
 use Rattle.elements.specs.Find.{found_of, elements_found}
-use Rattle.strong.specs.declared.find.FindAnswer.{FindAnswer}
-use Rattle.strong.specs.declared.find.FindAnswer.TheVariants.{Refused, Done}
+use Rattle.std.specs.Prelude.{Result, Ok, Err}
+use Rattle.questions.specs.declared.refusals.Refusal.{Refusal}
 use Rattle.questions.specs.Answers.{accepted, refused}
 use Rattle.questions.specs.Questions.{first_no, ask, count_ok, carrier_ok, places_ok, work_ok}
 use Rattle.strong.specs.Find.{find_questions, FindResult, find_rule, find_outcome}
@@ -61,12 +61,12 @@ module _ (iq : List Float) (fs hz : Float) (elements work : List Float) where
   unfolding find_rule
   find_number n lent e = refused_asked _ _ _ n lent e
 
-  -- What 01 accepts is never refused: with a yes to each question, 1 to 6, the answer is Done, with the result of 01.
+  -- What 01 accepts is never refused: with a yes to each question, 1 to 6, the answer is Ok, with the result of 01.
   pub find_accepts : rate_ok fs ≡ true → count_ok (length iq) ≡ true → all_finite iq ≡ true → carrier_ok fs hz ≡ true
       → places_ok (step_blocks iq fs / 2) (length elements / ELEMENT) ≡ true → work_ok (step_blocks iq fs) (length work) ≡ true
-      → (a : FindAnswer) (elements-after work-after : List Float) → find_outcome a elements-after work-after ≡ find_rule iq fs hz elements work
-      → a ≡ Done (found_of iq fs hz)
+      → (a : Result Found Refusal) (elements-after work-after : List Float) → find_outcome a elements-after work-after ≡ find_rule iq fs hz elements work
+      → a ≡ Ok (found_of iq fs hz)
   unfolding find_rule
-  find_accepts rate count finite carrier places room (Refused n) elements-after work-after e =
-      absurd (never_refused _ _ _ n _ e (rate, (count, (finite, (carrier, (places, (room, tt)))))))
-  find_accepts rate count finite carrier places room (Done f) elements-after work-after e = ap Done (find_done _ e).1
+  find_accepts rate count finite carrier places room (Err r) elements-after work-after e =
+      absurd (never_refused _ _ _ _ _ e (rate, (count, (finite, (carrier, (places, (room, tt)))))))
+  find_accepts rate count finite carrier places room (Ok f) elements-after work-after e = ap Ok (find_done _ e).1

@@ -13,8 +13,8 @@ use Rattle.elements.specs.Element.{ELEMENT}
 use Rattle.fits.specs.declared.fit.ElementFit.{ElementFit}
 use Rattle.fits.specs.List.{FIT}
 use Rattle.fits.specs.Inner.{AllTimed}
-use Rattle.strong.specs.declared.fit.FitAnswer.{FitAnswer}
-use Rattle.strong.specs.declared.fit.FitAnswer.TheVariants.{Refused, Done}
+use Rattle.std.specs.Prelude.{Result, Ok, Err}
+use Rattle.questions.specs.declared.refusals.Refusal.{Refusal}
 use Rattle.questions.specs.Answers.{accepted, refused}
 use Rattle.questions.specs.Questions.{first_no, ask, count_ok, carrier_ok, places_ok, work_ok, elements_ok}
 use Rattle.strong.specs.Fit.{fit_questions, FitResult, fits_given, fit_rule, fit_outcome}
@@ -66,12 +66,12 @@ module _ (iq : List Float) (fs hz : Float) (elements : List Float) (count : ℕ)
   unfolding fit_rule
   fit_number n lent e = refused_asked _ _ _ n lent e
 
-  -- What 01 accepts is never refused: with a yes to each question, 1 to 7, the answer is Done, with the result of 01.
+  -- What 01 accepts is never refused: with a yes to each question, 1 to 7, the answer is Ok, with the result of 01.
   pub fit_accepts : rate_ok fs ≡ true → count_ok (length iq) ≡ true → all_finite iq ≡ true → carrier_ok fs hz ≡ true
       → places_ok count (length fits / FIT) ≡ true → work_ok (step_blocks iq fs) (length work) ≡ true → elements_ok elements count ≡ true
-      → (a : FitAnswer) (fits_after work-after : List Float) → fit_outcome a fits_after work-after ≡ fit_rule iq fs hz elements count fits work
-      → a ≡ Done (length (fits_given iq fs hz elements count))
+      → (a : Result ℕ Refusal) (fits_after work-after : List Float) → fit_outcome a fits_after work-after ≡ fit_rule iq fs hz elements count fits work
+      → a ≡ Ok (length (fits_given iq fs hz elements count))
   unfolding fit_rule
-  fit_accepts rate samples finite carrier places room given (Refused n) fits_after work-after e =
-      absurd (never_refused _ _ _ n _ e (rate, (samples, (finite, (carrier, (places, (room, (given, tt))))))))
-  fit_accepts rate samples finite carrier places room given (Done m) fits_after work-after e = ap Done (fit_done _ e).1
+  fit_accepts rate samples finite carrier places room given (Err r) fits_after work-after e =
+      absurd (never_refused _ _ _ _ _ e (rate, (samples, (finite, (carrier, (places, (room, (given, tt))))))))
+  fit_accepts rate samples finite carrier places room given (Ok m) fits_after work-after e = ap Ok (fit_done _ e).1

@@ -1,6 +1,7 @@
 -- What an accepted call hands out. The premises `promise` and `singles` of each theorem are what the call ensures
--- where it answers `Done` and leaves `elements-after`, `row-after`, `fits_after` or `work-after` in what it was lent;
+-- where it answers `Ok` and leaves `elements-after`, `row-after`, `fits_after` or `work-after` in what it was lent;
 -- `singles` says that every number of the recording is an f32. Assumes nothing.
+use Rattle.std.proofs.Common.{Some, None}
 use Prim.Native.Nat.{ℕ, ◌+◌, ◌-◌, ◌<◌}
 use native.Mathlib.Omega.{arith}
 use mathlib.Core.Path.{◌≡◌, sym, ap, ◌∙◌}
@@ -21,7 +22,6 @@ use Rattle.elements.specs.declared.element.KeyedElement.{KeyedElement}
 use Rattle.elements.specs.declared.keying.Found.{Found}
 use Rattle.elements.specs.Element.{element_at, elements_in}
 use Rattle.elements.specs.Keying.{LongKeyDowns, RowCounts, no_key_downs}
-use Rattle.elements.specs.declared.threshold.Threshold.TheVariants.{At, Absent}
 use Rattle.elements.specs.Find.{threshold_of, amplitude_row_of, found_at, elements_at, found_of, elements_found}
 use Rattle.elements.specs.Times.{Placed, InTime}
 use Rattle.elements.proofs.Records.{elements_read}
@@ -30,7 +30,6 @@ use Rattle.elements.proofs.Amplitudes.{found_by_row, elements_by_row}
 use Rattle.elements.proofs.Exactly.{handed_exactly, handed_nothing, counted_exactly, counted_nothing}
 use Rattle.elements.proofs.Times.{handed_placed, handed_in_time}
 use Rattle.fits.specs.declared.fit.ElementFit.{ElementFit}
-use Rattle.fits.specs.declared.fit.Fit.TheVariants.{Fitted}
 use Rattle.fits.specs.declared.estimate.Estimate.{Estimate}
 use Rattle.fits.specs.Fit.{fit_of}
 use Rattle.fits.specs.List.{fits_in, is_skipped, skipped_of}
@@ -38,10 +37,7 @@ use Rattle.fits.specs.Estimate.{refined, strong_elements, strong_estimate}
 use Rattle.fits.proofs.Records.{fits_read}
 use Rattle.fits.proofs.Fitted.{fits_are, fit_is, fitted_or_skipped}
 use Rattle.fits.proofs.Strong.{handed_strong, handed_strong_nothing, handed_strong_fits, strong_fit_is, strong_counted}
-use Rattle.strong.specs.declared.amplitude.RowAnswer.TheVariants as amplitude
-use Rattle.strong.specs.declared.find.FindAnswer.TheVariants as find
-use Rattle.strong.specs.declared.fit.FitAnswer.TheVariants as fit
-use Rattle.strong.specs.declared.estimate.EstimateAnswer.TheVariants as estimate
+use Rattle.std.specs.Prelude.{Ok}
 use Rattle.strong.specs.Amplitude.{row_outcome, row_rule}
 use Rattle.strong.specs.Find.{find_outcome, find_rule}
 use Rattle.strong.specs.Fit.{fit_outcome, fit_rule}
@@ -54,18 +50,18 @@ use Rattle.strong.proofs.EstimateAccepted.{estimate_accepted, estimate_done}
 -- ---- find_elements
 
 module _ (iq : List Float) (fs hz : Float) (elements work : List Float) (f : Found) (elements-after work-after : List Float)
-    (promise : find_outcome (find.Done f) elements-after work-after ≡ find_rule iq fs hz elements work) where
+    (promise : find_outcome (Ok f) elements-after work-after ≡ find_rule iq fs hz elements work) where
   module _ (singles : Singles iq) where
     -- A pair is among the elements handed out exactly if it is a key-down of the row and long; each is there once, in
     -- order, each down before the next up.
-    pub find_exactly : (thr : Float) → threshold_of iq fs hz ≡ At thr
+    pub find_exactly : (thr : Float) → threshold_of iq fs hz ≡ Some thr
         → LongKeyDowns (row_of iq fs hz) thr (row_length iq fs - 1) (step_of fs) fs (elements_in elements-after f.listed)
     find_exactly thr t =
         let told = find_done iq fs hz elements work _ promise in
         handed_exactly iq fs hz elements-after elements f.listed told.2 singles (find_accepted iq fs hz _ _ told.0).iq_ok thr t
 
     -- Key-downs, listed and short are how many of each the row has.
-    pub find_counted : (thr : Float) → threshold_of iq fs hz ≡ At thr → RowCounts (row_of iq fs hz) thr (row_length iq fs - 1) (step_of fs) fs f
+    pub find_counted : (thr : Float) → threshold_of iq fs hz ≡ Some thr → RowCounts (row_of iq fs hz) thr (row_length iq fs - 1) (step_of fs) fs f
     find_counted thr t =
         let told = find_done iq fs hz elements work _ promise in
         rw told.1 (counted_exactly iq fs hz singles (find_accepted iq fs hz _ _ told.0).iq_ok thr t)
@@ -86,7 +82,7 @@ module _ (iq : List Float) (fs hz : Float) (elements work : List Float) (f : Fou
         handed_in_time iq fs hz singles known.iq_ok known.rate_ok_lem elements-after elements f.listed told.2
 
   -- With no threshold, nothing.
-  pub find_nothing : threshold_of iq fs hz ≡ Absent → (elements_in elements-after f.listed ≡ []) × (f ≡ no_key_downs)
+  pub find_nothing : threshold_of iq fs hz ≡ None → (elements_in elements-after f.listed ≡ []) × (f ≡ no_key_downs)
   find_nothing t =
       let told = find_done iq fs hz elements work _ promise in
       (handed_nothing iq fs hz elements-after elements f.listed told.2 t, told.1 ∙ counted_nothing iq fs hz t)
@@ -94,7 +90,7 @@ module _ (iq : List Float) (fs hz : Float) (elements work : List Float) (f : Fou
 -- ---- amplitude_row
 
 module _ (iq : List Float) (fs hz : Float) (row work : List Float) (r : AmplitudeRow) (row-after work-after : List Float)
-    (promise : row_outcome (amplitude.Done r) row-after work-after ≡ row_rule iq fs hz row work) where
+    (promise : row_outcome (Ok r) row-after work-after ≡ row_rule iq fs hz row work) where
   -- The numbers handed out are the amplitudes, and the threshold is the recording's.
   pub row_told_lem : r ≡ amplitude_row_of iq fs hz
   row_told_lem = (row_done iq fs hz row work _ promise).0
@@ -119,14 +115,14 @@ module _ (iq : List Float) (fs hz : Float) (row work : List Float) (r : Amplitud
 -- ---- fit_elements
 
 module _ (iq : List Float) (fs hz : Float) (elements : List Float) (count : ℕ) (fits work : List Float) (n : ℕ) (fits_after work-after : List Float)
-    (promise : fit_outcome (fit.Done n) fits_after work-after ≡ fit_rule iq fs hz elements count fits work) where
+    (promise : fit_outcome (Ok n) fits_after work-after ≡ fit_rule iq fs hz elements count fits work) where
   -- The fits handed out are, in order, of the given elements that are not skipped.
   pub fit_elements_are : map (λ g. g.element) (fits_in fits_after n) ≡ those (λ e. not (is_skipped (fit_of iq fs (hz ⊘ fs) e))) (elements_in elements count)
   fit_elements_are =
       rw (fits_read fits_after fits n _ (fit_done iq fs hz elements count fits work _ promise).2) (fits_are iq fs hz (elements_in elements count))
 
   -- Each is the fit of its element.
-  pub fit_each : (g : ElementFit) → Memᴰ g (fits_in fits_after n) → fit_of iq fs (hz ⊘ fs) g.element ≡ Fitted g
+  pub fit_each : (g : ElementFit) → Memᴰ g (fits_in fits_after n) → fit_of iq fs (hz ⊘ fs) g.element ≡ Some g
   fit_each g m =
       fit_is iq fs hz (elements_in elements count) g (rw (fits_read fits_after fits n _ (fit_done iq fs hz elements count fits work _ promise).2) at m)
 
@@ -142,7 +138,7 @@ module _ (iq : List Float) (fs hz : Float) (elements : List Float) (count : ℕ)
 -- ---- estimate_strong, at the carrier that it answers
 
 module _ (iq : List Float) (fs hint : Float) (elements fits work : List Float) (d : Estimate) (elements-after fits_after work-after : List Float)
-    (promise : estimate_outcome (estimate.Done d) elements-after fits_after work-after ≡ estimate_rule iq fs hint elements fits work) where
+    (promise : estimate_outcome (Ok d) elements-after fits_after work-after ≡ estimate_rule iq fs hint elements fits work) where
   at_refined : d.carrier_hz ≡ refined iq fs hint
   unfolding strong_estimate
   at_refined = ap (λ (e : Estimate). e.carrier_hz) (estimate_done iq fs hint elements fits work _ promise).1
@@ -153,14 +149,14 @@ module _ (iq : List Float) (fs hint : Float) (elements fits work : List Float) (
 
   module _ (singles : Singles iq) where
     -- The elements handed out and the counts are those of the second find, as of find_elements.
-    pub estimate_exactly : (thr : Float) → threshold_of iq fs d.carrier_hz ≡ At thr
+    pub estimate_exactly : (thr : Float) → threshold_of iq fs d.carrier_hz ≡ Some thr
         → LongKeyDowns (row_of iq fs d.carrier_hz) thr (row_length iq fs - 1) (step_of fs) fs (elements_in elements-after d.found.listed)
     estimate_exactly thr t =
         let told = estimate_done iq fs hint elements fits work _ promise in
         let known = estimate_accepted iq fs hint _ _ _ told.0 in
         rw at_refined (handed_strong iq fs hint elements-after elements _ told.2 singles known.iq_ok thr (rw at_refined at t))
 
-    pub estimate_counted : (thr : Float) → threshold_of iq fs d.carrier_hz ≡ At thr
+    pub estimate_counted : (thr : Float) → threshold_of iq fs d.carrier_hz ≡ Some thr
         → RowCounts (row_of iq fs d.carrier_hz) thr (row_length iq fs - 1) (step_of fs) fs d.found
     estimate_counted thr t =
         let known = estimate_accepted iq fs hint _ _ _ (estimate_done iq fs hint elements fits work _ promise).0 in
@@ -182,7 +178,7 @@ module _ (iq : List Float) (fs hint : Float) (elements fits work : List Float) (
         handed_in_time iq fs (refined iq fs hint) singles known.iq_ok known.rate_ok_lem elements-after elements d.found.listed told.2
 
   -- With no threshold, nothing.
-  pub estimate_nothing : threshold_of iq fs d.carrier_hz ≡ Absent → (elements_in elements-after d.found.listed ≡ []) × (d.found ≡ no_key_downs)
+  pub estimate_nothing : threshold_of iq fs d.carrier_hz ≡ None → (elements_in elements-after d.found.listed ≡ []) × (d.found ≡ no_key_downs)
   estimate_nothing t =
       (handed_strong_nothing iq fs hint elements-after elements _ (estimate_done iq fs hint elements fits work _ promise).2 (rw at_refined at t), found_is ∙ counted_nothing iq fs d.carrier_hz t)
 
@@ -194,7 +190,7 @@ module _ (iq : List Float) (fs hint : Float) (elements fits work : List Float) (
       let told = estimate_done iq fs hint elements fits work _ promise in
       rw at_refined (handed_strong_fits iq fs hint elements-after elements _ told.2 fits_after fits _ told.3)
 
-  pub estimate_each : (g : ElementFit) → Memᴰ g (fits_in fits_after d.fitted) → fit_of iq fs (d.carrier_hz ⊘ fs) g.element ≡ Fitted g
+  pub estimate_each : (g : ElementFit) → Memᴰ g (fits_in fits_after d.fitted) → fit_of iq fs (d.carrier_hz ⊘ fs) g.element ≡ Some g
   estimate_each g m =
       let told = estimate_done iq fs hint elements fits work _ promise in
       rw at_refined (strong_fit_is iq fs hint g (rw (fits_read fits_after fits _ _ told.3) at m))

@@ -1,14 +1,13 @@
 -- `amplitude_row`, open to callers (01, part 2, with questions 1 to 6). Definitions only.
-use Rattle.std.specs.Prelude.{ℕ, List, [], ◌∷◌, ◌++◌, length, Float}
+use Rattle.std.specs.Prelude.{ℕ, List, [], ◌∷◌, ◌++◌, length, Float, Result}
 use Rattle.lists.specs.Firsts.{firsts}
 use Rattle.row.specs.Window.{step_blocks}
 use Rattle.row.specs.Envelope.{row_of, row_length}
 use Rattle.elements.specs.declared.amplitude.AmplitudeRow.{AmplitudeRow}
 use Rattle.lists.specs.Records.{Handed, handed, handed_numbers}
 use Rattle.elements.specs.Find.{amplitude_row_of}
-use Rattle.strong.specs.declared.amplitude.RowAnswer.{RowAnswer}
-use Rattle.strong.specs.declared.amplitude.RowAnswer.TheVariants.{Refused, Done}
-use Rattle.questions.specs.Answers.{Outcome, accepted, refused, by_questions}
+use Rattle.questions.specs.declared.refusals.Refusal.{Refusal}
+use Rattle.questions.specs.Answers.{Outcome, outcome_of, by_questions}
 use Rattle.questions.specs.Refusals.{REFUSED_CARRIER, REFUSED_PLACES, REFUSED_WORK}
 use Rattle.questions.specs.Questions.{Asked, ask, recording_questions, carrier_ok, places_ok, work_ok}
 
@@ -26,9 +25,8 @@ pub record RowResult : Type 0 where
   pub work : ℕ
 
 -- the number and the result of each answer, with what the lent slices then hold
-abbrev pub row_outcome : RowAnswer → List Float → List Float → Outcome (List Float × List Float) RowResult
-row_outcome (Refused n) row work = refused n (row, work)
-row_outcome (Done r) row work = accepted (record { row = r; amplitudes = handed_numbers row r.amplitudes; work = length work })
+abbrev pub row_outcome : Result AmplitudeRow Refusal → List Float → List Float → Outcome (List Float × List Float) RowResult
+row_outcome a row work = outcome_of a (λ r. record { row = r; amplitudes = handed_numbers row r.amplitudes; work = length work }) (row, work)
 
 -- The first no is the result, and nothing is written; else the count and the threshold, and in the list the amplitude
 -- row.

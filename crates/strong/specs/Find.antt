@@ -1,14 +1,13 @@
 -- `find_elements`, open to callers (01, part 3, with questions 1 to 6). Definitions only.
-use Rattle.std.specs.Prelude.{ℕ, ◌/◌, List, [], ◌∷◌, ◌++◌, length, Float}
+use Rattle.std.specs.Prelude.{ℕ, ◌/◌, List, [], ◌∷◌, ◌++◌, length, Float, Result}
 use Rattle.row.specs.Window.{step_blocks}
 use Rattle.elements.specs.declared.element.KeyedElement.{KeyedElement}
 use Rattle.elements.specs.declared.keying.Found.{Found}
 use Rattle.lists.specs.Records.{Handed, handed}
 use Rattle.elements.specs.Element.{ELEMENT, handed_elements}
 use Rattle.elements.specs.Find.{found_of, elements_found}
-use Rattle.strong.specs.declared.find.FindAnswer.{FindAnswer}
-use Rattle.strong.specs.declared.find.FindAnswer.TheVariants.{Refused, Done}
-use Rattle.questions.specs.Answers.{Outcome, accepted, refused, by_questions}
+use Rattle.questions.specs.declared.refusals.Refusal.{Refusal}
+use Rattle.questions.specs.Answers.{Outcome, outcome_of, by_questions}
 use Rattle.questions.specs.Refusals.{REFUSED_CARRIER, REFUSED_PLACES, REFUSED_WORK}
 use Rattle.questions.specs.Questions.{Asked, ask, recording_questions, carrier_ok, places_ok, work_ok}
 
@@ -25,9 +24,9 @@ pub record FindResult : Type 0 where
   pub work : ℕ
 
 -- the number and the result of each answer, with what the lent slices then hold
-abbrev pub find_outcome : FindAnswer → List Float → List Float → Outcome (List Float × List Float) FindResult
-find_outcome (Refused n) elements work = refused n (elements, work)
-find_outcome (Done f) elements work = accepted (record { found = f; elements = handed_elements elements f.listed; work = length work })
+abbrev pub find_outcome : Result Found Refusal → List Float → List Float → Outcome (List Float × List Float) FindResult
+find_outcome a elements work =
+    outcome_of a (λ f. record { found = f; elements = handed_elements elements f.listed; work = length work }) (elements, work)
 
 -- The first no is the result, and nothing is written; else what is found, and the elements in the list.
 unfoldable pub find_rule : List Float → Float → Float → List Float → List Float → Outcome (List Float × List Float) FindResult

@@ -1,13 +1,12 @@
 -- `fit_elements`, open to callers (01, part 4, with questions 1 to 7). Definitions only.
-use Rattle.std.specs.Prelude.{ℕ, ◌/◌, List, [], ◌∷◌, ◌++◌, length, Float}
+use Rattle.std.specs.Prelude.{ℕ, ◌/◌, List, [], ◌∷◌, ◌++◌, length, Float, Result}
 use Rattle.row.specs.Window.{step_blocks}
 use Rattle.lists.specs.Records.{Handed, handed}
 use Rattle.elements.specs.Element.{elements_in}
 use Rattle.fits.specs.declared.fit.ElementFit.{ElementFit}
 use Rattle.fits.specs.List.{FIT, handed_fits, fits_of}
-use Rattle.strong.specs.declared.fit.FitAnswer.{FitAnswer}
-use Rattle.strong.specs.declared.fit.FitAnswer.TheVariants.{Refused, Done}
-use Rattle.questions.specs.Answers.{Outcome, accepted, refused, by_questions}
+use Rattle.questions.specs.declared.refusals.Refusal.{Refusal}
+use Rattle.questions.specs.Answers.{Outcome, outcome_of, by_questions}
 use Rattle.questions.specs.Refusals.{REFUSED_CARRIER, REFUSED_PLACES, REFUSED_WORK, REFUSED_GIVEN}
 use Rattle.questions.specs.Questions.{Asked, ask, recording_questions, carrier_ok, places_ok, work_ok, elements_ok}
 
@@ -24,9 +23,8 @@ pub record FitResult : Type 0 where
   pub work : ℕ
 
 -- the number and the result of each answer, with what the lent slices then hold
-abbrev pub fit_outcome : FitAnswer → List Float → List Float → Outcome (List Float × List Float) FitResult
-fit_outcome (Refused n) fits work = refused n (fits, work)
-fit_outcome (Done n) fits work = accepted (record { fitted = n; fits = handed_fits fits n; work = length work })
+abbrev pub fit_outcome : Result ℕ Refusal → List Float → List Float → Outcome (List Float × List Float) FitResult
+fit_outcome a fits work = outcome_of a (λ n. record { fitted = n; fits = handed_fits fits n; work = length work }) (fits, work)
 
 -- the fits of the given elements
 abbrev pub fits_given : List Float → Float → Float → List Float → ℕ → List ElementFit

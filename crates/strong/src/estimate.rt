@@ -4,13 +4,9 @@ ghost use Rattle.row.specs.Samples.{Singles};
 ghost use Rattle.strong.specs.Estimate.{estimate_outcome, estimate_rule};
 
 use fits::Estimate;
-use questions::estimate_no;
-
-#[derive(Clone, Copy)]
-pub enum EstimateAnswer {
-    Refused(u64),
-    Done(Estimate),
-}
+use questions::{Refusal, accept_estimate};
+use row::Recording;
+use trig::Sines;
 
 // Rust: estimate_strong. It asks first; the lists are lent, and the counts of the second pass are added. Each number of
 // the recording is an f32, as in find_elements.
@@ -21,16 +17,14 @@ pub fn estimate_strong(
     elements: &mut [f64],
     fits: &mut [f64],
     work: &mut [f64],
-) -> EstimateAnswer
+) -> Result<Estimate, Refusal>
     ensures work_after { estimate_outcome result elements.new fits.new work.new
         ≡ estimate_rule iq.now fs hint_hz elements.old fits.old work.old }
     ensures singles { Singles iq.now }
 {
-    let no = estimate_no(iq, fs, hint_hz, elements.len(), fits.len(), work.len());
-    if no != 0 {
-        return EstimateAnswer::Refused(no);
-    }
-    let sine = trig::sine_table();
-    let estimate = fits::estimate_strong(iq, fs, hint_hz, elements, fits, work, &sine);
-    EstimateAnswer::Done(estimate)
+    accept_estimate(iq, fs, hint_hz, elements.len(), fits.len(), work.len())?;
+    let recording = Recording::new(iq, fs);
+    let sine = Sines::new();
+    let estimate = fits::estimate_strong(&recording, hint_hz, elements, fits, work, &sine);
+    Ok(estimate)
 }

@@ -7,7 +7,7 @@ mod estimate;
 mod find;
 mod fit;
 
-pub use amplitude::{RowAnswer, amplitude_row};
-pub use estimate::{EstimateAnswer, estimate_strong};
-pub use find::{FindAnswer, find_elements};
-pub use fit::{FitAnswer, fit_elements};
+pub use amplitude::amplitude_row;
+pub use estimate::estimate_strong;
+pub use find::find_elements;
+pub use fit::fit_elements;

@@ -7,11 +7,9 @@
 -- Removals    the loops of `subtract_span` and `subtract`; `length_subtracted`, `subtracted_more`
 -- Samples     what `subtract` leaves, sample by sample: `subtracted_at`, `outside_spans`
 -- RustFields  all of it goes by the Rust's own fields of a fit: `span_alike`, `synth_alike`, `subtracted_alike`
--- Laws        what a proof's `search laws` goes by
 pub mod Spans
 pub mod Bounds
 pub mod Parts
 pub mod Removals
 pub mod Samples
 pub mod RustFields
-pub mod Laws

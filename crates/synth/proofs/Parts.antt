@@ -2,11 +2,12 @@
 use Prim.Native.Nat.{ℕ, zero, suc, ◌+◌, ◌-◌, ◌*◌, ◌<◌, ◌≤◌}
 use native.Mathlib.Nat.{not-suc-le-zero, eq-or-lt_of_le, le_of_suc-le-suc}
 use native.Mathlib.Omega.{arith}
-use mathlib.Core.Path.{◌≡◌, refl, sym, ap, ◌∙◌}
-use mathlib.Core.List.{List, [], ◌∷◌, ◌++◌}
+use mathlib.Core.Path.{◌≡◌, refl, ap, ◌∙◌}
+use mathlib.Core.List.{List, ◌++◌}
 use mathlib.Core.Logic.{⊎_elim}
 use lib.ListN.{length, set, take, drop, length-set}
-use lib.Seq.{length-take-le, set-append_left, get_or-take, get_or-drop}
+use lib.Seq.{length-take-le, get_or-take, get_or-drop}
+use Rattle.std.proofs.lemmas.List.{set-append_left, set-append_right}
 use lib.Ieee.{Float, nan}
 use borrow.Rule.Slice.PartMut.{mid_of, post_of, put_mid, put_same, mid_len}
 use Rattle.complex.specs.declared.value.Complex.{Complex}
@@ -40,17 +41,12 @@ z_at_z_fill_from l at f (suc n) k h g =
 -- ---- a part that is lent: the k numbers from number a on
 
 module _ {A : Type 0} where
-  set_append_add : (xs ys : List A) (j : ℕ) (v : A) → set (xs ++ ys) (length xs + j) v ≡ xs ++ set ys j v
-  set_append_add [] ys j v = let here : 0 + j ≡ j = omega arith in rw here
-  set_append_add (x ∷ xs) ys j v = let here : suc (length xs) + j ≡ suc (length xs + j) = omega arith in rw here (ap (λ l. x ∷ l) (set_append_add xs ys j v))
-
   -- a number stored in the part is stored a further in the whole
   put_set : (a k : ℕ) (xs ys : List A) (j : ℕ) (v : A) → a ≤ length xs → j < length ys → put_mid a k xs (set ys j v) ≡ set (put_mid a k xs ys) (a + j) v
   put_set a k xs ys j v h g =
       let before : length (take a xs) ≡ a = length-take-le a xs h in
-      ap (λ l. take a xs ++ l) (sym (set-append_left ys (post_of a k xs) j v g))
-      ∙ sym (set_append_add (take a xs) (ys ++ post_of a k xs) j v)
-      ∙ ap (λ n. set (put_mid a k xs ys) (n + j) v) before
+      let here : a + j - a ≡ j = omega arith in
+      rw (set-append_right (take a xs) (ys ++ post_of a k xs) a (a + j) v before (omega arith), here, set-append_left ys (post_of a k xs) j v g)
 
 -- samples stored from the start of the part are stored from its place on in the whole
 put_filled : (lo k : ℕ) (xs ys : List Float) (g : ℕ → Complex) (n : ℕ) → 2 * lo ≤ length xs → 2 * n ≤ length ys

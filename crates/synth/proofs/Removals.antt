@@ -14,14 +14,14 @@ use Rattle.lists.specs.Firsts.{firsts}
 use Rattle.row.specs.Window.{samples}
 use Rattle.fits.specs.declared.fit.ElementFit.{ElementFit}
 use Rattle.fits.specs.List.{fit_at, fits_in}
-use Rattle.synth.specs.declared.span.Span.{Span}
+use Rattle.row.specs.declared.span.Span.{Span}
 use Rattle.synth.specs.Span.{span_of}
 use Rattle.synth.specs.Removal.{less_single, sent_at, less_at, less_by, subtracted}
 use Rattle.synth.specs.Inner.{less_part}
 use Rattle.synth.proofs.Spans.{span_ordered, span_inside}
 use Rattle.synth.proofs.Parts.{z_at_z_fill_above, part_length, part_sample, part_filled}
 
--- ---- one fit over a part: before the loop, a turn of it, and after it
+-- ---- one fit over a part: before the loop, and a turn of it
 module _ (fs cyc : Float) (f : ElementFit) (lo : ℕ) (part : List Float) where
   pub part_none : part ≡ less_part fs cyc f lo part 0
   unfolding less_part
@@ -34,9 +34,6 @@ module _ (fs cyc : Float) (f : ElementFit) (lo : ℕ) (part : List Float) where
   part_turn j cur new s p e h =
       let as-was : z_at cur j ≡ z_at part j = rw p (z_at_z_fill_above part 0 (λ i. less_at fs cyc f (lo + i) (z_at part i)) j j (omega arith)) in
       z_fill_turn0 part (λ i. less_at fs cyc f (lo + i) (z_at part i)) j cur new (less_single (z_at cur j) s) p (ap₂ less_single as-was e) h
-
-  pub part_done : (n j : ℕ) (cur : List Float) → cur ≡ less_part fs cyc f lo part j → j ≤ n → n ≤ j → cur ≡ less_part fs cyc f lo part n
-  part_done n j cur p h g = let all : j ≡ n = omega arith in rw all at p
 
 -- ---- one fit over the buffer
 
@@ -78,7 +75,7 @@ module _ (fs cyc : Float) where
   length_subtracted buf [] = refl
   length_subtracted buf (f ∷ fits) = length_subtracted (less_by fs cyc f buf) fits ∙ length_less f buf
 
-  -- the loop over the fits of a list, at place p: before it, a turn of it, and after it
+  -- the loop over the fits of a list, at place p: before it, and a turn of it
   module _ (buf l : List Float) where
     pub subtracted_none : buf ≡ subtracted fs cyc buf (fits_in l 0)
     unfolding subtracted fits_in firsts
@@ -93,6 +90,3 @@ module _ (fs cyc : Float) where
         let same : length cur ≡ length buf = rw e (length_subtracted buf (fits_in l p)) in
         let here : s ≡ span_of fs (samples cur) f = span ∙ ap (λ n. span_of fs (n / 2) f) (sym same) in
         rw (taken, here, part_less f cur, add-one, subtracted_more buf (firsts (fit_at l) p) (fit_at l p), ← at, ← e)
-
-    pub subtracted_done : (n p : ℕ) (cur : List Float) → cur ≡ subtracted fs cyc buf (fits_in l p) → p ≤ n → n ≤ p → cur ≡ subtracted fs cyc buf (fits_in l n)
-    subtracted_done n p cur e h g = let all : p ≡ n = omega arith in rw all at e

@@ -4,7 +4,7 @@ use native.Mathlib.Nat.{min-le_right}
 use mathlib.Core.Path.{◌≡◌}
 use lib.Ieee.{Float}
 use Rattle.fits.specs.declared.fit.ElementFit.{ElementFit}
-use Rattle.synth.specs.declared.span.Span.{Span}
+use Rattle.row.specs.declared.span.Span.{Span}
 use Rattle.synth.specs.Span.{span_of}
 
 module _ (fs : Float) (n : ℕ) (f : ElementFit) where

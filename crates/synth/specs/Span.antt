@@ -7,7 +7,7 @@ use Rattle.float.specs.Compare.{max_of}
 use Rattle.float.specs.Whole.{floor_of, ceil_of}
 use Rattle.constants.specs.Constants.{RISE_S}
 use Rattle.fits.specs.declared.fit.ElementFit.{ElementFit}
-use Rattle.synth.specs.declared.span.Span.{Span}
+use Rattle.row.specs.declared.span.Span.{Span}
 
 -- `pad`: two rises, in samples
 abbrev pub pad_of : Float → Float

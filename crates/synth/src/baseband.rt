@@ -1,18 +1,16 @@
 // A fit's synthesis, derotated to the carrier.
 ghost use Rattle.std.specs.Prelude.{◌≡◌, ◌≤◌};
-ghost use Rattle.trig.specs.Circle.{quarter_sines};
 ghost use Rattle.synth.specs.Baseband.{envelope_of, synth_at};
 
 use crate::rise::rc;
 use complex::Complex;
 use elements::KeyedElement;
 use fits::ElementFit;
-use trig::TAU;
+use trig::{Sines, TAU};
 
 // Rust: `env` in `synth_baseband`.
-fn envelope(e: KeyedElement, fs: f64, k: usize, sine: &[f64; 1025]) -> f64
-    requires k_bound { k ≤ 9007199254740992 }
-    requires sine_value { sine.now ≡ quarter_sines }
+fn envelope(e: KeyedElement, fs: f64, k: usize, sine: &Sines) -> f64
+    requires { k ≤ 9007199254740992 }
     ensures { result ≡ envelope_of fs e k }
 {
     let at = float::exact(k);
@@ -20,9 +18,8 @@ fn envelope(e: KeyedElement, fs: f64, k: usize, sine: &[f64; 1025]) -> f64
 }
 
 // Rust: synth_baseband.
-pub fn synth_baseband(f: ElementFit, fs: f64, k: usize, sine: &[f64; 1025]) -> Complex
-    requires k_bound { k ≤ 9007199254740992 }
-    requires sine_value { sine.now ≡ quarter_sines }
+pub fn synth_baseband(f: ElementFit, fs: f64, k: usize, sine: &Sines) -> Complex
+    requires { k ≤ 9007199254740992 }
     ensures { result ≡ synth_at fs f k }
 {
     let env = envelope(f.element, fs, k, sine);

@@ -9,4 +9,5 @@ pub mod span;
 
 pub use baseband::synth_baseband;
 pub use removal::subtract;
-pub use span::{Span, fit_span};
+pub use row::Span;
+pub use span::fit_span;

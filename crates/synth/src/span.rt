@@ -1,16 +1,10 @@
-// The stretch of samples that a fit's synthesis covers.
+// The span of samples that a fit's synthesis covers.
 ghost use Rattle.std.specs.Prelude.{◌≡◌};
 ghost use Rattle.synth.specs.Span.{span_of};
 
 use constants::RISE_S;
 use fits::ElementFit;
-
-// The samples from lo up to, not including, hi.
-#[derive(Clone, Copy)]
-pub struct Span {
-    pub lo: usize,
-    pub hi: usize,
-}
+use row::Span;
 
 // Rust: fit_span.
 pub fn fit_span(f: ElementFit, fs: f64, n: usize) -> Span
@@ -20,9 +14,6 @@ pub fn fit_span(f: ElementFit, fs: f64, n: usize) -> Span
     let pad = 2.0 * RISE_S * fs;
     let lo = float::to_whole(float::max(float::floor(e.start - pad), 0.0));
     let past = float::to_whole(float::max(float::ceil(e.end + pad), 0.0));
-    let hi = float::least(past, n);
-    Span {
-        lo: float::least(lo, hi),
-        hi,
-    }
+    let hi = past.min(n);
+    Span { lo: lo.min(hi), hi }
 }

@@ -9,6 +9,7 @@ ghost use Rattle.trig.specs.Circle.{rest_of, index_of, within, small_sine, small
 
 use crate::choice::pick;
 use crate::consts::PI;
+use crate::table::sine_table;
 use float::TWO_52;
 
 // 3 × 2^51: a sum with it from 2^52 up to 2^53 has no digit after the point, and its last digits are those of the whole
@@ -73,15 +74,6 @@ fn small_cosine(r: f64) -> f64
     1.0 - r * r / 2.0 + r * r * r * r / 24.0
 }
 
-// An entry of the table.
-fn entry(sine: &[f64; 1025], k: usize) -> f64
-    requires sine_value { sine.now ≡ quarter_sines }
-    requires k_bound { k < 1025 }
-    ensures { result ≡ entry_of k }
-{
-    sine[k]
-}
-
 // The place in the first quarter that has the same sine, but for the sign.
 fn fold(p: usize) -> usize
     ensures { (result ≡ folded p) × (result < 1025) }
@@ -97,19 +89,6 @@ fn sign_at(p: usize) -> u64
     if p <= 2048 { 0 } else { 0x8000_0000_0000_0000 }
 }
 
-// The sine of p/4096 turn, from the entry k that it is but for the sign. The sign goes into the bit pattern, since a
-// choice between v and -v is compiled to a branch, which the angles decide.
-fn sine_at(sine: &[f64; 1025], k: usize, p: usize) -> f64
-    requires sine_value { sine.now ≡ quarter_sines }
-    requires p_bound { p < 4096 }
-    requires k_bound { k < 1025 }
-    requires k_value { k ≡ folded p }
-    ensures { result ≡ sine_at p }
-{
-    let v = entry(sine, k);
-    f64::from_bits(f64::to_bits(v) + sign_at(p))
-}
-
 // The sine and the cosine of one angle.
 #[derive(Clone, Copy)]
 pub struct SinCos {
@@ -117,52 +96,83 @@ pub struct SinCos {
     pub cos: f64,
 }
 
-fn within_seven(x: f64, sine: &[f64; 1025]) -> SinCos
-    requires sine_value { sine.now ≡ quarter_sines }
-    requires of_value { le (abs_of x) (of 7) ≡ true }
-    ensures { (result.sin ≡ sin_of x) × (result.cos ≡ cos_of x) }
-{
-    let p = turned(x);
-    let at = p.at;
-    let s = small_sine(p.rest);
-    let c = small_cosine(p.rest);
-    // The cosine is the sine a quarter of a turn further, whose place is as far from 1,024 as k is from 0.
-    let k = fold(at);
-    let v = sine_at(sine, k, at);
-    let w = sine_at(sine, 1024 - k, (at + 1024) % 4096);
-    SinCos {
-        sin: v * c + w * s,
-        cos: w * c - v * s,
-    }
+// The sines of the first quarter of a turn. The outermost caller makes them once and lends them: `let sine =
+// Sines::new();`.
+#[derive(Drop)]
+pub struct Sines {
+    quarter: [f64; 1025],
+    pub ghost of_table: { quarter ≡ quarter_sines },
 }
 
-// The table is lent, so that the outermost caller makes it once: `let sine = trig::sine_table();`.
-pub fn sin_cos(x: f64, sine: &[f64; 1025]) -> SinCos
-    requires { sine.now ≡ quarter_sines }
-    ensures { (result.sin ≡ sin_of x) × (result.cos ≡ cos_of x) }
-{
-    if x <= 7.0 {
-        if -7.0 <= x {
-            return within_seven(x, sine);
+impl Sines {
+    pub fn new() -> Sines {
+        Sines {
+            quarter: sine_table(),
         }
     }
-    SinCos { sin: 0.0, cos: 0.0 }
-}
 
-// Rust: f64::sin.
-pub fn sin(x: f64, sine: &[f64; 1025]) -> f64
-    requires { sine.now ≡ quarter_sines }
-    ensures { result ≡ sin_of x }
-{
-    let p = sin_cos(x, sine);
-    p.sin
-}
+    // An entry of the table.
+    fn entry(&self, k: usize) -> f64
+        requires { k < 1025 }
+        ensures { result ≡ entry_of k }
+    {
+        self.quarter[k]
+    }
 
-// Rust: f64::cos.
-pub fn cos(x: f64, sine: &[f64; 1025]) -> f64
-    requires { sine.now ≡ quarter_sines }
-    ensures { result ≡ cos_of x }
-{
-    let p = sin_cos(x, sine);
-    p.cos
+    // The sine of p/4096 turn, from the entry k that it is but for the sign. The sign goes into the bit pattern, since
+    // a choice between v and -v is compiled to a branch, which the angles decide.
+    fn sine_at(&self, k: usize, p: usize) -> f64
+        requires p_bound { p < 4096 }
+        requires k_bound { k < 1025 }
+        requires k_value { k ≡ folded p }
+        ensures { result ≡ sine_at p }
+    {
+        let v = self.entry(k);
+        f64::from_bits(f64::to_bits(v) + sign_at(p))
+    }
+
+    fn within_seven(&self, x: f64) -> SinCos
+        requires { le (abs_of x) (of 7) ≡ true }
+        ensures { (result.sin ≡ sin_of x) × (result.cos ≡ cos_of x) }
+    {
+        let p = turned(x);
+        let at = p.at;
+        let s = small_sine(p.rest);
+        let c = small_cosine(p.rest);
+        // The cosine is the sine a quarter of a turn further, whose place is as far from 1,024 as k is from 0.
+        let k = fold(at);
+        let v = self.sine_at(k, at);
+        let w = self.sine_at(1024 - k, (at + 1024) % 4096);
+        SinCos {
+            sin: v * c + w * s,
+            cos: w * c - v * s,
+        }
+    }
+
+    pub fn sin_cos(&self, x: f64) -> SinCos
+        ensures { (result.sin ≡ sin_of x) × (result.cos ≡ cos_of x) }
+    {
+        if x <= 7.0 {
+            if -7.0 <= x {
+                return self.within_seven(x);
+            }
+        }
+        SinCos { sin: 0.0, cos: 0.0 }
+    }
+
+    // Rust: f64::sin.
+    pub fn sin(&self, x: f64) -> f64
+        ensures { result ≡ sin_of x }
+    {
+        let p = self.sin_cos(x);
+        p.sin
+    }
+
+    // Rust: f64::cos.
+    pub fn cos(&self, x: f64) -> f64
+        ensures { result ≡ cos_of x }
+    {
+        let p = self.sin_cos(x);
+        p.cos
+    }
 }

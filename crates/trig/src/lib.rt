@@ -9,6 +9,6 @@ pub mod consts;
 pub mod table;
 
 pub use argument::arg;
-pub use circle::{SinCos, cos, sin, sin_cos};
+pub use circle::{SinCos, Sines};
 pub use consts::{PI, TAU};
 pub use table::sine_table;

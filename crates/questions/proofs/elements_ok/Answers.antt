@@ -1,31 +1,16 @@
--- `questions::elements_ok` meets its contract. The loop: every element before place p is accepted. Assumes
--- nothing.
-use Rattle.questions.proofs.Given.{given}
+-- `questions::elements_ok` meets its contract: the chain asks of each number below the count.
+use Rattle.std.proofs.Common.{◌≡◌, true, false, rules, arith, refl}
+use Rattle.std.proofs.lemmas.Iterator.{cases_from_all, YieldsList-from_range}
+use Rattle.elements.specs.Element.{element_at}
+use Rattle.questions.specs.Questions.{element_ok}
+use Rattle.questions.proofs.Given.{all_told, ok_over}
 use Rattle.questions.proofs.elements_ok.Goals as goal
 
 pub returns-then-count-list : goal.returns-then-count-list
-returns-then-count-list c = search given
+returns-then-count-list c =
+    all_told element_ok (element_at c.args.list.now) _ _ _ c.if-count-list.true
+    (cases_from_all _ _ _ (λ k. element_ok (element_at c.args.list.now k) ≡ true) (λ k. element_ok (element_at c.args.list.now k) ≡ false) c.all.ensures.ran
+    (YieldsList-from_range 0 c.args.count c.args.count refl (omega arith)) (λ x q k. search rules) (λ x q k. search rules))
 
-pub loop-p-init : goal.loop-p-init
-loop-p-init c = search given
-
-pub element_at-requires : goal.element_at-requires
-element_at-requires c = search given
-
-pub element_ok-requires : goal.element_ok-requires
-element_ok-requires c = search given
-
-pub returns-then-not-element_ok : goal.returns-then-not-element_ok
-returns-then-not-element_ok c = search given
-
-pub overflow_step-p : goal.overflow_step-p
-overflow_step-p c = search given
-
-pub loop-p-smaller : goal.loop-p-smaller
-loop-p-smaller c = search given
-
-pub loop-p-preserved : goal.loop-p-preserved
-loop-p-preserved c = search given
-
-pub returns : goal.returns
-returns c = search given
+pub returns-else-count-list : goal.returns-else-count-list
+returns-else-count-list c = ok_over element_ok (element_at c.args.list.now) _ _ c.if-count-list.false

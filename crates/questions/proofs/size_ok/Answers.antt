@@ -7,7 +7,3 @@ use Rattle.questions.proofs.size_ok.Goals as goal
 pub returns-then-finite : goal.returns-then-finite
 unfolding size_ok sized of_bits
 returns-then-finite c = rw (c.abs.ensures, ← c.finite.ensures, c.if-finite.true)
-
-pub returns-else-finite : goal.returns-else-finite
-unfolding size_ok sized of_bits
-returns-else-finite c = rw (← c.finite.ensures, c.if-finite.false)

@@ -1,5 +1,5 @@
 -- `replay::main` is safe and ends.
-use Rattle.replay.proofs.Prefix.{repeated}
+use Rattle.replay.proofs.Repeated.{repeated}
 use Rattle.replay.proofs.main.Goals as goal
 
 pub slice_bounds-read_full-end : goal.slice_bounds-read_full-end

@@ -1,18 +1,13 @@
 -- `capi::calls::cancel_fit_elements` meets its contract.
-use Rattle.strong.proofs.FitAccepted.{fit_done}
 use Rattle.strong.specs.Fit.{fit_rule}
+use Rattle.strong.proofs.FitAccepted.{fit_done}
+use Rattle.figures.specs.Calls.{fitted_figures}
 use Rattle.capi.specs.Calls.{fit_call, fit_told}
-use Rattle.capi.proofs.Ways.{refused_call, done_call, fit_told_lem}
+use Rattle.capi.proofs.Ways.{told_way, fit_told_lem}
 use Rattle.capi.proofs.calls.cancel_fit_elements.Goals as goal
 
-pub returns-in-Refused : goal.returns-in-Refused
+pub returns : goal.returns
 unfolding fit_call fit_rule
-returns-in-Refused c =
-    let answered = (rw c.in-Refused.is at c.fit_elements.ensures) in
-    refused_call fit_told _ _ _ _ _ _ _ answered
-
-pub returns-in-Done : goal.returns-in-Done
-unfolding fit_call
-returns-in-Done c =
-    let answered = (rw c.in-Done.is at c.fit_elements.ensures) in
-    done_call fit_told _ _ _ _ _ answered (fit_told_lem _ _ _ _ _ (fit_done _ _ _ _ _ _ _ _ answered).1 c.of_fit.ensures)
+returns c =
+    told_way fit_told _ _ fitted_figures _ _ _ _ _ _ _ _ c.fit_elements.ensures c.told.ensures
+    (λ x e q. fit_told_lem _ _ _ _ _ (fit_done c.args.iq.now c.args.fs c.args.carrier_hz c.args.elements.now c.args.element_count c.args.fits.now c.args.work.now _ e).1 q)

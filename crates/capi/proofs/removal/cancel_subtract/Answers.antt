@@ -4,13 +4,10 @@ use Rattle.given.specs.Removal.{subtract_rule}
 use Rattle.capi.proofs.Ways.{refused_way}
 use Rattle.capi.proofs.removal.cancel_subtract.Goals as goal
 
-pub returns-in-Refused : goal.returns-in-Refused
-unfolding subtract_rule
-returns-in-Refused c =
-    let answered = (rw c.in-Refused.is at c.subtract.ensures) in
-    refused_way _ _ _ _ _ _ answered
-
-pub returns-in-Done : goal.returns-in-Done
+pub returns-in-Ok : goal.returns-in-Ok
 unfolding by_number
-returns-in-Done c =
-    (rw c.in-Done.is at c.subtract.ensures)
+returns-in-Ok c = c.in-Ok.ensures
+
+pub returns-in-Err : goal.returns-in-Err
+unfolding subtract_rule
+returns-in-Err c = rw c.from.ensures (refused_way _ _ _ _ _ _ c.in-Err.ensures)

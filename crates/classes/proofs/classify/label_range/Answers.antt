@@ -1,20 +1,14 @@
--- The invariant: x is at the places from a up to b.
-use mathlib.Core.Path.{refl, sym}
+use mathlib.Core.Path.{refl, ◌∙◌}
 use mathlib.Core.Bool.{true, and-true}
-use lib.ListN.{length-set}
-use Rattle.classes.proofs.Labelled.{label_none, label_yes, label_range}
-use borrow.Author.Rules.{rules}
+use Rattle.classes.proofs.Labelled.{labelled_all, labelled_cong, range_put, range_none}
 use Rattle.classes.proofs.classify.label_range.Goals as goal
 
-pub loop-b-preserved : goal.loop-b-preserved
-loop-b-preserved c =
-    let inv = c.loop-b.invariant in
-    (search rules, search rules, simp length-set inv.2, label_yes _ _ _ (λ k. true) _ _ inv.3 inv.0 (search rules) refl)
+pub returns-then-a-e : goal.returns-then-a-e
+returns-then-a-e c =
+    let filled = rw c.from.ensures at (c.fill.ensures.after (λ y h. h)) in
+    range_put _ _ _ _ _ _ _ c.first_from-a.ensures (rw c.past_last.ensures at c.min-e.ensures) (λ b. true) (λ b. true) _ c.if-a-e.true (labelled_all _ _ _ filled c.fill.ensures.len) (λ b h. refl)
+    ∙ labelled_cong _ _ _ _ (λ b h. and-true _)
 
-pub returns : goal.returns
-returns c =
-    label_range _ _ _ _ _ (λ k. true) _ _ _ _ _ c.first_from-a.ensures
-    (rw c.past_last.ensures at c.least-e.ensures) c.loop-b.invariant.3 (search rules) c.loop-b.invariant.1 (λ b. sym (and-true _))
-
-pub loop-b-init : goal.loop-b-init
-loop-b-init c = search (rules, label_none)
+pub returns-else-a-e : goal.returns-else-a-e
+returns-else-a-e c =
+    range_none _ _ _ _ _ _ _ c.first_from-a.ensures (rw c.past_last.ensures at c.min-e.ensures) (λ b. true) c.if-a-e.false ∙ labelled_cong _ _ _ _ (λ b h. and-true _)

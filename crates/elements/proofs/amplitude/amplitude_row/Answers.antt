@@ -1,16 +1,27 @@
--- `elements::amplitude_row` meets its contract.
-use native.Mathlib.Omega.{arith}
+use Rattle.std.proofs.Common.{◌≤◌, length, arith, sym}
+use Rattle.std.proofs.lemmas.List.{length-take-le}
 use Rattle.elements.proofs.Amplitudes.{row_size, row_few, row_made}
+use Rattle.elements.proofs.amplitude.amplitude_row.Goals.{After-make_row-made}
 use Rattle.elements.proofs.amplitude.amplitude_row.Goals as goal
 
-pub copy_row-requires : goal.copy_row-requires
-copy_row-requires c = let size = row_size _ _ _ _ c.make_row-made.ensures in omega arith
+room : (c : After-make_row-made) → length c.make_row-made.result.now ≤ length c.args.row.now
+room c = let size = row_size _ _ _ _ c.make_row-made.ensures in omega arith
+
+pub slice_bounds-copy_from_slice-end : goal.slice_bounds-copy_from_slice-end
+slice_bounds-copy_from_slice-end c = room (goal.at.slice_bounds-copy_from_slice-end c).After-make_row-made
+
+pub slice_bounds-copy_from_slice-end-2 : goal.slice_bounds-copy_from_slice-end-2
+slice_bounds-copy_from_slice-end-2 c = sym (length-take-le _ _ (room (goal.at.slice_bounds-copy_from_slice-end-2 c).After-make_row-made))
+
+pub copy_from_slice-requires : goal.copy_from_slice-requires
+copy_from_slice-requires c = length-take-le _ _ (room (goal.at.copy_from_slice-requires c).After-make_row-made)
 
 pub row_threshold-requires : goal.row_threshold-requires
 row_threshold-requires c =
-    let few = row_few _ _ _ _ c.make_row-made.ensures c.requires.iq in
+    let few = row_few _ _ _ _ c.make_row-made.ensures c.args.recording.now.samples.accepted in
     omega arith
 
 pub returns : goal.returns
 returns c =
-    row_made _ _ _ _ _ _ _ c.make_row-made.ensures c.requires.fs_in_bounds c.copy_row.ensures c.row_threshold.ensures
+    rw c.copy_from_slice.ensures.after
+    (row_made _ _ _ _ _ _ c.make_row-made.ensures c.requires.row_in_bounds c.row_threshold.ensures)

@@ -6,4 +6,4 @@ returns-in_default c = keep_none _ _ _ c.in_default.is
 
 pub returns : goal.returns
 returns c =
-    keep_one _ _ _ _ _ c.in-Fitted.is c.put_fit.ensures
+    keep_one _ _ _ _ _ c.in-Some.is c.put_fit.ensures

@@ -1,4 +1,4 @@
-use Rattle.std.proofs.Common.{◌≡◌, ℕ, ◌+◌, ◌*◌, ◌%◌, ◌^◌, ◌<◌, ◌≤◌, ◌∙◌, sym, ap, subst, lt_of_lt_of_le, one-mul, arith, pow_mono, shl_lt}
+use Rattle.std.proofs.Common.{◌≡◌, ℕ, ◌*◌, ◌%◌, ◌^◌, ◌<◌, ◌∙◌, sym, ap, subst, one-mul, arith, pow_mono}
 use lib.Pow.{shl_exact}
 use Rattle.float.specs.Inner.{counted}
 use Rattle.float.proofs.Modulo.{low_power, high_power}
@@ -8,10 +8,7 @@ shifted_one : (e : ℕ) → e < 52 → 1 * 2 ^ e % 18446744073709551616 ≡ 2 ^ 
 shifted_one e h = shl_exact 1 e 64 (omega arith) (omega arith) ∙ one-mul (2 ^ e)
 
 few : (e : ℕ) → e < 52 → 2 ^ e < 9218868437227405312
-few e h = subst (λ (x : ℕ). x < 9218868437227405312) (one-mul (2 ^ e)) (lt_of_lt_of_le (shl_lt {a = 1} 1 e (omega arith)) (le_top (1 + e) (omega arith)))
-  where
-    le_top : (i : ℕ) → i ≤ 53 → 2 ^ i ≤ 9218868437227405312
-    le_top i h = omega (arith, pow_mono {i = i} {j = 53} h)
+few e h = omega (arith, pow_mono {i = e} {j = 52} (omega arith))
 
 pub returns-then-e-lt52 : goal.returns-then-e-lt52
 returns-then-e-lt52 c =

@@ -19,13 +19,11 @@ returns-then-size-by c =
     rem_small binary64 c.args.a c.args.b (yes c.well_formed.0.1) (yes (rw (c.abs-by.ensures, c.abs-size.ensures) at c.if-size-by.true))
 
 pub returns-then-not-finite : goal.returns-then-not-finite
+unfolding of_bits
 returns-then-not-finite c = not_finite c.args.a c.args.b (ap finite_f (sym c.abs-size.ensures) ∙ sym c.finite.ensures ∙ c.if-not-finite.true)
 
 pub float_to_bits-size : goal.float_to_bits-size
 float_to_bits-size c = (known c).x_number
-
-pub float_to_bits-by : goal.float_to_bits-by
-float_to_bits-by c = (known c).y_number
 
 pub rem_bits-r-requires : goal.rem_bits-r-requires
 rem_bits-r-requires c =

@@ -1,17 +1,14 @@
 use Rattle.std.proofs.Common.{◌∙◌, ap, arith}
 use lib.Ieee.{binary64, mul, of_bits}
-use Rattle.float.proofs.Modulo.{exponents, some_units, rem_units}
-use Rattle.float.proofs.Value.{no_nan_bits}
+use Rattle.float.proofs.Modulo.{exponents, rem_units}
+use Rattle.std.proofs.lemmas.Float.{not_nan_f64_bits}
 use Rattle.float.proofs.remainder.rem_bits.Goals as goal
 
 pub overflow_sub-a : goal.overflow_sub-a
 overflow_sub-a c = exponents _ _ _ _ _ _ c.in_units-a.ensures c.in_units-b.ensures c.requires.order
 
-pub shifted-r-requires : goal.shifted-r-requires
-shifted-r-requires c = record { n_nonzero = some_units _ _ _ c.in_units-b.ensures c.requires.y_nonzero; n_bound = c.in_units-b.ensures.most }
-
 pub float_from_bits-result : goal.float_from_bits-result
-float_from_bits-result c = no_nan_bits _ (omega (arith, c.power_bits-p.ensures.0))
+float_from_bits-result c = not_nan_f64_bits _ (omega (arith, c.power_bits-p.ensures.0))
 
 pub returns : goal.returns
 returns c =

@@ -1,11 +1,10 @@
-use Rattle.std.proofs.Common.{◌^◌, ◌∙◌, mod-lt}
-use Rattle.std.proofs.lemmas.Nat.{mul-mod_first}
-use Rattle.float.proofs.Modulo.{eleven}
+-- `float::remainder::shifted` meets its contract.
+use Rattle.std.proofs.Common.{◌*◌, ◌%◌, ◌∙◌, arith}
+use Rattle.float.proofs.Modulo.{more_digits}
 use Rattle.float.proofs.remainder.shifted.Goals as goal
 
-pub loop-left-init : goal.loop-left-init
-loop-left-init c = (mod-lt _ c.requires.n_nonzero, mul-mod_first c.args.m (2 ^ c.args.k) c.args.n)
+pub loop-preserved : goal.loop-preserved
+loop-preserved c = rw c.loop.invariant (more_digits c.args.m c.args.n (11 * c.loop.counter) 11 _ (omega arith))
 
-pub loop-left-preserved : goal.loop-left-preserved
-loop-left-preserved c =
-    (mod-lt _ c.requires.n_nonzero, eleven c.loop-left.r c.args.n c.loop-left.left c.loop-left-test.true ∙ c.loop-left.invariant.1)
+pub returns : goal.returns
+returns c = c.few_digits.ensures ∙ rw c.loop.invariant (more_digits c.args.m c.args.n (11 * c.loop.counter) (c.args.k % 11) c.args.k (omega arith))

@@ -1,6 +1,7 @@
 -- `float::single::narrow_bits` meets its contract: each range of `a` is a lemma of `proofs/Narrowing.antt`. Assumes
 -- nothing.
-use Rattle.std.proofs.Common.{◌≡◌, ℕ, ◌+◌, ◌-◌, ◌*◌, ◌/◌, ◌%◌, ◌^◌, ◌≤◌, sym, ◌∙◌, subst, le_trans, le_of_eq, lt_of_le_of_lt, mod-eq_of_lt, one-mul, arith, lit<, pow_pos, pow_mono}
+use Rattle.std.proofs.Common.{◌≡◌, ℕ, ◌+◌, ◌-◌, ◌*◌, ◌/◌, ◌%◌, ◌^◌, sym, ◌∙◌, subst, one-mul, arith}
+use lib.Pow.{shl_exact}
 use Rattle.float.specs.Inner.{Narrowed}
 use Rattle.float.proofs.Narrowing.{normal, over, sub, tiny}
 use Rattle.float.proofs.single.narrow_bits.Goals as goal
@@ -9,24 +10,9 @@ use Rattle.float.proofs.single.narrow_bits.Goals as goal
 abbrev k : goal.Then-a-ge3927138875067072512 → ℕ
 k c = 925 - c.args.a / 0x10_0000_0000_0000
 
-k-le : (c : goal.Then-a-ge3927138875067072512) → k c ≤ 53
-k-le c = omega arith
-
-h_le : (c : goal.Then-a-ge3927138875067072512) → 2 ^ k c ≤ 2 ^ 53
-h_le c = pow_mono (k-le c)
-
 -- `1 << k` loses nothing
 h-is : (c : goal.Then-a-ge3927138875067072512) → 1 * 2 ^ k c % 2 ^ 64 ≡ 2 ^ k c
-h-is c = mod-eq_of_lt (lt_of_le_of_lt (le_trans (le_of_eq (one-mul (2 ^ k c))) (h_le c)) (lit< tt)) ∙ one-mul (2 ^ k c)
-
-pub overflow_sub-result : goal.overflow_sub-result
-overflow_sub-result c = omega (arith, h-is c, pow_pos (k c))
-
-pub overflow_add-result-then-a-ge3927138875067072512 : goal.overflow_add-result-then-a-ge3927138875067072512
-overflow_add-result-then-a-ge3927138875067072512 c = omega (arith, h-is c, h_le c)
-
-pub overflow_add-result-then-a-ge3927138875067072512-3 : goal.overflow_add-result-then-a-ge3927138875067072512-3
-overflow_add-result-then-a-ge3927138875067072512-3 c = omega (arith, h-is c, h_le c)
+h-is c = shl_exact 1 (k c) 64 (omega arith) (omega arith) ∙ one-mul (2 ^ k c)
 
 pub returns-then-a-ge5183643171103440896 : goal.returns-then-a-ge5183643171103440896
 returns-then-a-ge5183643171103440896 c = over c.args.a c.if-a-ge5183643171103440896.true c.requires

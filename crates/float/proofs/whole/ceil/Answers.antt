@@ -1,31 +1,14 @@
 -- `float::whole::ceil` meets its contract.
-use Rattle.std.proofs.Common.{T, sym, ap, ◌∙◌}
-use lib.Ieee.{of_bits, neg, lt}
-use Rattle.float.proofs.Compared.{nought, yes, no}
+use Rattle.std.proofs.Common.{sym, ◌∙◌}
+use Rattle.float.proofs.Compared.{yes}
 use Rattle.float.proofs.Picks.{ceil_pick, ceil_steps, ceil_is}
-use Rattle.float.proofs.Wholes.{neg_above, plus_is, minus_is, none_is}
+use Rattle.float.proofs.Wholes.{neg_above, signed_is}
 use Rattle.float.proofs.whole.ceil.Goals as goal
 
-above : (c : goal.Then-x) → T (lt nought c.args.x)
-unfolding of_bits
-above c = yes c.if-x.true
+pub by_sign-requires-clause-minus : goal.by_sign-requires-clause-minus
+by_sign-requires-clause-minus c = neg_above c.args.x
 
-under : (c : goal.Then-x-2) → T (lt c.args.x nought)
-unfolding of_bits
-under c = yes c.if-x-2.true
-
-pub returns-then-x : goal.returns-then-x
-returns-then-x c = let x = c.args.x in c.whole_up.ensures ∙ plus_is ceil_pick x (above c.before) ∙ sym (ceil_is x)
-
-pub returns-then-x-2 : goal.returns-then-x-2
-returns-then-x-2 c = let x = c.args.x in ap neg c.whole_down.ensures ∙ minus_is ceil_pick x (under c.before) ∙ sym (ceil_is x)
-
-pub returns-else-x-2 : goal.returns-else-x-2
-unfolding of_bits
-returns-else-x-2 c = let x = c.args.x in none_is ceil_pick ceil_steps x (no c.if-x.false) (no c.if-x-2.false) (yes c.well_formed.0.1) ∙ sym (ceil_is x)
-
-pub whole_up-requires : goal.whole_up-requires
-whole_up-requires c = above c
-
-pub whole_down-requires : goal.whole_down-requires
-whole_down-requires c = neg_above c.args.x (under c)
+pub returns : goal.returns
+returns c =
+    let s = c.by_sign.ensures in
+    signed_is ceil_pick ceil_steps c.args.x _ (yes c.well_formed.0.1) s.above s.below s.none ∙ sym (ceil_is c.args.x)

@@ -39,9 +39,6 @@ known : (c : lts.After-whole_down tie.the-claims reads.Pre reads.Post tie.handed
 unfolding of_bits
 known c = cast c.args.x c.whole_down-t.result (above c.before.before) (yes c.if-x-2.true) c.whole_down-t.ensures
 
-pub whole_down-t-requires : goal.whole_down-t-requires
-whole_down-t-requires c = above c.before
-
 pub float_to_int-n : goal.float_to_int-n
 float_to_int-n c = (known c.before).0
 

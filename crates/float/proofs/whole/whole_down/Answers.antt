@@ -1,25 +1,12 @@
 -- `float::whole::whole_down` meets its contract.
+use Rattle.std.proofs.Common.{rules}
 use lib.Ieee.{of_bits}
-use Rattle.float.specs.Whole.{cut}
-use Rattle.float.proofs.Compared.{yes, no}
-use Rattle.float.proofs.Picks.{cut_steps}
-use Rattle.float.proofs.Wholes.{Small, small_is, large}
-use Rattle.float.proofs.whole.whole_down.Lts as lts
-use Rattle.float.proofs.whole.whole_down.Reads as reads
+use Rattle.float.proofs.Compared.{yes}
+use Rattle.float.proofs.Wholes.{down_is}
 use Rattle.float.proofs.whole.whole_down.Goals as goal
 
-next-to : (c : lts.Then1 reads.Pre reads.Post) → Small c.args.x
+pub returns : goal.returns
 unfolding of_bits
-next-to c = small_is c.args.x (yes c.well_formed.0.1) c.requires (yes c.if-x.true)
-
-pub returns-then-t-x : goal.returns-then-t-x
-unfolding of_bits
-returns-then-t-x c = (next-to c.before).down_more (yes c.if-t-x.true)
-
-pub returns-else-t-x : goal.returns-else-t-x
-unfolding of_bits
-returns-else-t-x c = (next-to c.before).down_same (no c.if-t-x.false)
-
-pub returns-else-x : goal.returns-else-x
-unfolding of_bits
-returns-else-x c = large cut cut_steps c.args.x (yes c.well_formed.0.1) c.requires (no c.if-x.false)
+returns c =
+    let m = c.mended.ensures in
+    down_is c.args.x _ (yes c.well_formed.0.1) c.requires (λ k. let h = m.below k in search rules) m.whole

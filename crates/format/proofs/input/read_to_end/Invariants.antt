@@ -1,10 +1,10 @@
-use Prim.Native.Nat.{◌-◌, ◌<◌}
-use mathlib.Core.Path.{◌≡◌}
-use lib.ListN.{length}
+-- The last read is of this input, and asked for a piece; each goes on behind the one before it.
+use Rattle.std.proofs.Common.{◌≡◌, ◌-◌, min, max, length}
 use Rattle.format.proofs.input.read_to_end.Given as goal
 
-abbrev pub invariant-loop-read : goal.invariant-loop-read
-invariant-loop-read g l = (l.n < length l.bytes) × (length l.bytes ≡ length l.initial.bytes)
+abbrev pub invariant-loop-n : goal.invariant-loop-n
+invariant-loop-n g l =
+    (l.last.room ≡ length l.bytes) × (l.last.asked ≡ min (max 1 l.piece) (length l.bytes - l.last.there)) × (length l.bytes ≡ length l.initial.bytes)
 
-abbrev pub decreases-loop-read : goal.decreases-loop-read
-decreases-loop-read g l = length l.initial.bytes - l.n
+abbrev pub decreases-loop-n : goal.decreases-loop-n
+decreases-loop-n g l = length l.initial.bytes - l.last.there

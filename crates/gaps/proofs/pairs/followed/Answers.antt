@@ -1,8 +1,11 @@
-use Rattle.gaps.proofs.Paired.{followed_some, followed_none}
+use borrow.Author.Tests.{lt-ltb, le-ltb}
+use Rattle.gaps.specs.Pairs.{followed}
 use Rattle.gaps.proofs.pairs.followed.Goals as goal
 
-pub returns-then-b-blocks : goal.returns-then-b-blocks
-returns-then-b-blocks c = followed_some _ _ _ _ c.if-b-blocks.true c.above.ensures
+pub returns-then-b-held : goal.returns-then-b-held
+unfolding followed
+returns-then-b-held c = rw (lt-ltb _ _ c.if-b-held.true) c.above.ensures
 
-pub returns : goal.returns
-returns c = followed_none _ _ _ c.if-b-blocks.false
+pub returns-else-b-held : goal.returns-else-b-held
+unfolding followed
+returns-else-b-held c = rw (le-ltb _ _ c.if-b-held.false)

@@ -1,15 +1,10 @@
-use Prim.Native.Nat.{◌*◌, ◌≤◌, ◌-◌}
+-- What was found so far is the specification's, of the first b blocks.
 use mathlib.Core.Path.{◌≡◌}
 use Rattle.complex.specs.Rows.{z_at}
 use Rattle.classes.specs.declared.class.BlockClass.TheVariants.{Gap}
-use Rattle.prepared.specs.Sections.{CLASSES}
-use Rattle.prepared.specs.Inner.{class_in}
+use Rattle.prepared.specs.Inner.{of_class}
 use Rattle.gaps.specs.Pairs.{above, pairs_of}
 use Rattle.gaps.proofs.pairs.sum_pairs.Given as goal
 
 abbrev pub invariant-loop-b : goal.invariant-loop-b
-invariant-loop-b l =
-    (l.b ≤ l.blocks) × (l.found ≡ pairs_of (above (class_in l.work (CLASSES * l.blocks) Gap) (z_at l.work) l.level) (z_at l.work) l.b)
-
-abbrev pub decreases-loop-b : goal.decreases-loop-b
-decreases-loop-b l = l.blocks - l.b
+invariant-loop-b l = l.found ≡ pairs_of (above (of_class l.held.codes.now Gap) (z_at l.held.means.now) l.level) (z_at l.held.means.now) l.b

@@ -1,43 +1,27 @@
--- The invariant: n powers of the first b blocks are stored, and `from` is where block b starts.
 use native.Mathlib.Omega.{arith}
 use mathlib.Core.Path.{refl, ap, ◌∙◌}
-use lib.ListN.{length, length-set}
 use borrow.Author.Rules.{rules}
 use Rattle.lists.specs.Count.{count_to}
 use Rattle.lists.specs.Those.{keep}
-use Rattle.row.proofs.Means.{start_within, raised_fits, start_next, block_mean_is}
+use Rattle.row.proofs.Means.{start_next, block_mean_is}
 use Rattle.complex.specs.Value.{c_norm_sqr}
-use Rattle.gaps.proofs.References.{kept_yes, kept_no, kept_done}
-use Rattle.gaps.proofs.reference.gap_powers.Goals.{then-is_class, else-is_class}
+use Rattle.prepared.proofs.Gathered.{gather_yes, gather_no}
+use Rattle.gaps.proofs.reference.gap_powers.Goals.{then-x-gap, else-x-gap}
 use Rattle.gaps.proofs.reference.gap_powers.Goals as goal
 
-pub loop-b-init : goal.loop-b-init
+pub loop-x-init : goal.loop-x-init
 unfolding count_to keep
-loop-b-init c = (search rules, search rules, (search rules, search rules, refl, refl))
+loop-x-init c = (search rules, search rules, refl, refl)
 
-pub mean_from-requires : goal.mean_from-requires
-mean_from-requires c = record { iq = c.requires.iq; sine_value = c.requires.sine_value; len_in_bounds = start_within _ _ _ _ c.loop-b.invariant.1 (omega arith) }
-
-pub loop-b-preserved : goal.loop-b-preserved
-loop-b-preserved c =
-    let inv = c.loop-b.invariant in (
-      search rules,
-      start_next _ _ _ _ inv.1 refl,
-      elim c.if-is_class.branch [
-        | then-is_class w ↦
-            let next = kept_yes _ _ _ _ _ _ _ _ _ _ _ _ inv.2.3 inv.2.2 c.is_class.ensures w.if-is_class.true (w.norm_sqr.ensures ∙ ap c_norm_sqr (block_mean_is _ _ _ _ _ _ inv.1 w.mean_from.ensures)) w.work-is w.n-is (omega arith) in
-            (omega (arith, w.n-is), ap length w.work-is ∙ simp length-set inv.2.1, next.0, next.1)
-        | else-is_class w ↦
-            let next = kept_no _ _ _ _ _ _ _ _ _ _ _ inv.2.3 inv.2.2 c.is_class.ensures w.if-is_class.false w.work-is w.n-is (omega arith) in
-            (omega (arith, w.n-is), ap length w.work-is ∙ inv.2.1, next.0, next.1)
-      ],
-    )
-
-pub overflow_add-from : goal.overflow_add-from
-overflow_add-from c =
-    raised_fits _ _ _ _ c.loop-b.invariant.1 (omega arith) c.requires.iq.short
-
-pub returns : goal.returns
-returns c =
-    let inv = c.loop-b.invariant in
-    kept_done _ _ _ _ _ _ _ _ _ inv.2.3 inv.2.2 (omega arith) (omega arith)
+pub loop-x-preserved : goal.loop-x-preserved
+loop-x-preserved c =
+    let inv = c.loop-x.invariant in
+    elim c.if-x-gap.branch [
+      | then-x-gap w ↦
+          let power = w.norm_sqr.ensures ∙ ap c_norm_sqr (block_mean_is _ _ _ _ _ _ inv.0 w.mean_from.ensures) in
+          let next = gather_yes _ _ _ _ _ _ _ _ inv.3 inv.2 (rw (← c.from-gap.ensures) w.if-x-gap.true) power w.out-is in
+          (start_next _ _ _ _ inv.0 refl, omega (arith, w.n-is), w.n-is ∙ next.0, next.1)
+      | else-x-gap w ↦
+          let next = gather_no _ _ _ _ _ _ inv.3 inv.2 (rw (← c.from-gap.ensures) w.if-x-gap.false) in
+          (start_next _ _ _ _ inv.0 refl, omega (arith, w.n-is), w.n-is ∙ next.0, w.out-is ∙ next.1)
+    ]

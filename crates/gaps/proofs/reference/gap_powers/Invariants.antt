@@ -1,20 +1,15 @@
-use Prim.Native.Nat.{◌*◌, ◌≤◌, ◌-◌}
+-- The powers of the gap blocks among those so far are stored, n of them, and `from` is where the next block starts.
+use Prim.Native.Nat.{◌*◌, ◌≤◌}
 use mathlib.Core.Path.{◌≡◌}
-use lib.ListN.{length}
 use Rattle.lists.specs.Count.{count_to}
 use Rattle.lists.specs.Those.{keep}
 use Rattle.row.specs.Blocks.{block_mean}
 use Rattle.classes.specs.declared.class.BlockClass.TheVariants.{Gap}
-use Rattle.prepared.specs.Sections.{CLASSES}
-use Rattle.prepared.specs.Inner.{class_in}
+use Rattle.prepared.specs.Inner.{of_class}
 use Rattle.prepared.specs.Powers.{block_power}
 use Rattle.gaps.proofs.reference.gap_powers.Given as goal
 
-abbrev pub invariant-loop-b : goal.invariant-loop-b
-invariant-loop-b l =
-    (l.b ≤ l.blocks) × (l.from ≡ l.b * l.len)
-    × ((l.n ≤ l.b) × (length l.work ≡ length l.initial.work) × (l.n ≡ count_to (class_in l.initial.work (CLASSES * l.blocks) Gap) l.b)
-    × (l.work ≡ keep l.initial.work l.out (class_in l.initial.work (CLASSES * l.blocks) Gap) (block_power (block_mean l.iq l.cyc l.len)) l.b))
-
-abbrev pub decreases-loop-b : goal.decreases-loop-b
-decreases-loop-b l = l.blocks - l.b
+abbrev pub invariant-loop-x : goal.invariant-loop-x
+invariant-loop-x l =
+    (l.from ≡ l.x-index * l.len) × (l.n ≤ l.x-index) × (l.n ≡ count_to (of_class l.held.codes.now Gap) l.x-index)
+    × (l.out ≡ keep l.initial.out 0 (of_class l.held.codes.now Gap) (block_power (block_mean l.held.grid.samples.iq.now l.cyc l.len)) l.x-index)

@@ -1,41 +1,34 @@
 -- `given::block_classes` meets its contract: the first no is the answer, and where there is none, the classes that the
 -- work below labels.
 use native.Mathlib.Omega.{arith}
-use mathlib.Core.Path.{sym, ◌∙◌}
-use lib.ListN.{length, length-take, length-append}
+use mathlib.Core.Path.{sym}
 use Rattle.given.specs.Blocks.{classes_rule}
 use Rattle.questions.proofs.Calls.{refuses, accepts}
-use Rattle.given.proofs.BlocksAccepted.{ClassesAccepted, classes_accepted, classes_made}
-use Rattle.given.proofs.blocks.block_classes.Lts as lts
-use Rattle.given.proofs.blocks.block_classes.Reads as reads
-use Rattle.given.proofs.blocks.block_classes.Tie as tie
+use Rattle.given.proofs.BlocksAccepted.{classes_accepted, classes_made}
 use Rattle.given.proofs.blocks.block_classes.Goals as goal
 
--- where no question was answered no
-known : (c : lts.After-window_blocks tie.the-claims reads.Pre reads.Post tie.handed_clauses) →
-    ClassesAccepted c.args.iq_len c.args.fs c.args.elements.now c.args.element_count c.args.fits.now c.args.fit_count (length c.args.classes.now)
-known c =
-    classes_accepted c.args.iq_len c.args.fs c.args.carrier_hz c.args.carrier_step_hz c.args.elements.now c.args.element_count c.args.fits.now c.args.fit_count (length c.args.classes.now)
-    (sym c.classes_no-no.ensures ∙ c.if-no-ne0.false)
-
-pub returns-then-no-ne0 : goal.returns-then-no-ne0
+pub returns-in_err-accept_classes : goal.returns-in_err-accept_classes
 unfolding classes_rule
-returns-then-no-ne0 c = refuses _ _ _ _ c.classes_no-no.ensures c.if-no-ne0.true
+returns-in_err-accept_classes c = refuses _ _ _ _ _ _ c.from_residual.ensures c.in_err-accept_classes.ensures
 
-pub classify_blocks-requires : goal.classify_blocks-requires
-classify_blocks-requires c =
-    let h = known c.before.before in
-    record { rate = h.rate_ok_lem; n_bound = omega (arith, h.short); element_count_in_bounds = h.element_room; fit_count_in_bounds = h.fit_room; class_len = simp length-take (omega (arith, h.room, c.window_blocks-blocks.ensures)) }
+pub invariant_of-elements : goal.invariant_of-elements
+invariant_of-elements c = record { room = (classes_accepted _ _ _ _ _ _ _ _ _ (sym c.in_ok-accept_classes.ensures)).element_room }
+
+pub invariant_of-fits : goal.invariant_of-fits
+invariant_of-fits c = record { room = (classes_accepted _ _ _ _ _ _ _ _ _ (sym c.in_ok-accept_classes.ensures)).fit_room }
+
+pub new-rate-requires : goal.new-rate-requires
+new-rate-requires c = (classes_accepted _ _ _ _ _ _ _ _ _ (sym c.in_ok-accept_classes.ensures)).rate_ok_lem
+
+pub classify_blocks-requires-clause-n_bound : goal.classify_blocks-requires-clause-n_bound
+classify_blocks-requires-clause-n_bound c = omega (arith, (classes_accepted _ _ _ _ _ _ _ _ _ (sym c.in_ok-accept_classes.ensures)).short)
+
+pub slice_bounds-classify_blocks-end : goal.slice_bounds-classify_blocks-end
+slice_bounds-classify_blocks-end c = omega (arith, (classes_accepted _ _ _ _ _ _ _ _ _ (sym c.in_ok-accept_classes.ensures)).room, c.window_blocks-blocks.ensures)
 
 pub returns : goal.returns
 unfolding classes_rule
 returns c =
-    accepts _ _ c.args.classes.now _ _ c.classes_no-no.ensures c.if-no-ne0.false
-    (classes_made c.args.iq_len c.args.fs c.args.elements.now c.args.element_count c.args.fits.now c.args.fit_count _ _ c.args.classes.now _ c.window_blocks-blocks.ensures c.classify_blocks.ensures c.count_classes-counts.ensures c.classes-1.given.0)
-
-pub slice_bounds-classify_blocks-end : goal.slice_bounds-classify_blocks-end
-slice_bounds-classify_blocks-end c = omega (arith, (known c.before).room, c.window_blocks-blocks.ensures)
-
-pub slice_bounds-count_classes-end : goal.slice_bounds-count_classes-end
-slice_bounds-count_classes-end c =
-    simp length-append (omega (arith, simp length-take at c.classes-1.given.0, (known c.before.before.before.before.before).room, c.window_blocks-blocks.ensures))
+    let now = rw c.new-rate.ensures at c.classify_blocks.ensures in
+    accepts _ _ c.args.classes.now _ c.in_ok-accept_classes.ensures
+    (classes_made c.args.iq_len c.args.fs c.args.given.now.elements.now c.args.given.now.element_count c.args.given.now.fits.now c.args.given.now.fit_count _ _ c.args.classes.now _ c.window_blocks-blocks.ensures now c.count_classes-counts.ensures c.classes-1.given.0)

@@ -1,16 +1,10 @@
-use native.Mathlib.Omega.{arith}
-use Rattle.measure.proofs.Grids.{grid_window, grid_blocks, grid_count}
+use Rattle.measure.proofs.Grids.{grid_count, held}
 use Rattle.measure.proofs.Evidences.{check_is}
 use Rattle.measure.proofs.evidence.second_carrier_evidence.Goals as goal
-
-pub evidence-requires : goal.evidence-requires
-evidence-requires c =
-    let made = c.prepare-grid.ensures in
-    let iq = c.args.iq.now in
-    let count = grid_count iq _ _ _ made.0 in
-    record { iq = c.requires.iq; sine_value = c.requires.sine_value; window_value = grid_window iq _ _ _ made.0; blocks_value = grid_blocks iq _ _ _ made.0; blocks_in_bounds = omega (arith, count, made.1.room) }
 
 pub returns : goal.returns
 returns c =
     let made = c.prepare-grid.ensures in
-    check_is c.args.iq.now _ _ _ _ _ _ made.0 made.1 c.evidence.ensures
+    let count = grid_count _ _ _ _ _ _ made.grid.0 made.grid.1 c.prepare-grid.result.window_is c.prepare-grid.result.blocks_are in
+    let there = held _ _ _ _ _ _ _ _ made.prepared count c.split_at_mut-held.ensures.front c.new.ensures.held in
+    check_is _ _ _ _ _ _ _ _ _ _ _ _ made.grid count there (rw c.new.ensures.grid at c.evidence.ensures)

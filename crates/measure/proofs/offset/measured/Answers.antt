@@ -1,8 +1,6 @@
 use mathlib.Core.Path.{refl}
-use borrow.Author.Rules.{rules}
 use Rattle.measure.proofs.Offsets.{measured_is}
 use Rattle.measure.proofs.offset.measured.Goals as goal
 
 pub returns : goal.returns
-returns c =
-    (refl, measured_is _ _ _ _ _ _ _ c.paired_power.ensures (search rules))
+returns c = (refl, measured_is _ _ _ _ _ _ _ c.paired_power.ensures c.args.held.now.grid.window_is)

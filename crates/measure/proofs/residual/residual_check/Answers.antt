@@ -1,17 +1,10 @@
-use native.Mathlib.Omega.{arith}
-use borrow.Author.Rules.{rules}
-use Rattle.measure.proofs.Grids.{grid_window, grid_count, grid_inside}
+use Rattle.measure.proofs.Grids.{grid_count, held}
 use Rattle.measure.proofs.Figures.{check_is}
 use Rattle.measure.proofs.residual.residual_check.Goals as goal
-
-pub residual-requires : goal.residual-requires
-residual-requires c =
-    let made = c.prepare-grid.ensures in
-    let iq = c.args.iq.now in
-    let count = grid_count iq _ _ _ made.0 in
-    record { sine_value = search rules; window_value = grid_window iq _ _ _ made.0; window_bound = grid_inside iq _ _ _ made.0 c.requires.iq; blocks_in_bounds = omega (arith, count, made.1.room); count_in_bounds = search rules }
 
 pub returns : goal.returns
 returns c =
     let made = c.prepare-grid.ensures in
-    check_is c.args.iq.now _ _ _ _ _ _ _ _ made.0 made.1 c.residual.ensures.0
+    let count = grid_count _ _ _ _ _ _ made.grid.0 made.grid.1 c.prepare-grid.result.window_is c.prepare-grid.result.blocks_are in
+    let there = held _ _ _ _ _ _ _ _ made.prepared count c.split_at_mut-held.ensures.front c.new.ensures.held in
+    check_is _ _ _ _ _ _ _ _ _ _ made.grid.1 count there (rw c.new.ensures.grid at c.residual.ensures)

@@ -1,12 +1,16 @@
-use native.Mathlib.Omega.{arith}
-use lib.ListN.{length-take, length-drop}
 use borrow.Author.Rules.{rules}
-use Rattle.prepared.proofs.Less.{lessened}
+use native.Mathlib.Omega.{arith}
+use Rattle.fits.proofs.Records.{fit_read}
+use Rattle.prepared.proofs.Less.{fits_none, fits_turn, fits_done}
 use Rattle.prepared.proofs.left.subtract_from_means.Goals as goal
 
-pub subtract_fits-requires : goal.subtract_fits-requires
-subtract_fits-requires c = record { sine_value = search rules; window_nonzero = search rules; window_bound = search rules; row_len = simp (length-take, length-drop) (omega arith); count_in_bounds = search rules }
+pub loop-place-init : goal.loop-place-init
+loop-place-init c = λ b h. fits_none _ _ _ _ _ _
+
+pub loop-place-preserved : goal.loop-place-preserved
+loop-place-preserved c =
+    let f = fit_read _ _ _ c.loop-place.place-index _ c.each-place-items.ensures.value (omega arith) c.fit_at.ensures in
+    λ b h. fits_turn _ _ _ _ _ _ _ _ _ _ (c.loop-place.invariant b h) f (c.subtract_fit.ensures b h)
 
 pub returns : goal.returns
-returns c =
-    lessened _ _ c.subtract_fits.new.row _ c.copy_means.ensures (search rules) _ _ _ c.work-2-1.given.0 c.subtract_fits.ensures
+returns c = λ b h. rw (← c.copy_from_slice.ensures.after) (fits_done _ _ _ _ _ _ _ _ _ (c.loop-place.invariant b h) (search rules) (search rules))

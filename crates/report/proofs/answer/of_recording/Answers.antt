@@ -1,39 +1,37 @@
--- `report::answer::of_recording` meets its contract.
-use Prim.Native.Nat.{ℕ}
+-- `report::answer::of_recording` meets its contract: what the run answers, with the lists that it is lent here.
+use Prim.Native.Nat.{ℕ, ◌≤◌}
 use native.Mathlib.Omega.{arith}
 use mathlib.Core.Path.{refl, sym, subst}
 use mathlib.Core.List.{List}
-use Rattle.format.specs.Text.{Appended}
-use Rattle.report.proofs.Room.{refusal_most}
-use Rattle.report.proofs.Asks.{rate_bits, hint_bits, refused_is, done_is, done_room}
+use lib.ListN.{length}
+use Rattle.format.specs.Growing.{HasRoom, Grown}
+use Rattle.report.proofs.Asks.{lends, refused_is, done_is, done_places}
 use Rattle.report.proofs.answer.of_recording.Goals as goal
 
 pub refused-requires : goal.refused-requires
-refused-requires c = omega (arith, refusal_most c.in-Refused.no, c.requires.in_bounds)
+refused-requires c =
+    let told = rw c.in-Err.is at c.run.ensures.work_after in
+    let lent = lends _ _ _ _ c.requires.iq_len c.requires.iq_len_bound (omega arith) (omega arith) (omega arith) in
+    subst (λ (t : List ℕ). HasRoom c.args.out.now t) (refused_is _ _ told lent) c.requires.in_bounds
+
+pub returns-in-Err : goal.returns-in-Err
+returns-in-Err c =
+    let told = rw c.in-Err.is at c.run.ensures.work_after in
+    let lent = lends _ _ _ _ c.requires.iq_len c.requires.iq_len_bound (omega arith) (omega arith) (omega arith) in
+    subst (λ (t : List ℕ). Grown c.args.out.now t c.refused.new.out) (sym (refused_is _ _ told lent)) c.refused.ensures
 
 pub run_lines-requires : goal.run_lines-requires
 run_lines-requires c =
-    let asked = c.run in
-    let told = rw c.in-Done.is at asked.ensures.work_after in
-    let room =
-    done_room _ told c.in-Done.f asked.new.elements refl refl
-    (record { is_rate = rate_bits; is_hint = hint_bits; even = c.requires.iq_len; few = c.requires.iq_len_bound; elements_places = omega arith; fits_places = omega arith; work_numbers = omega arith })
-    c.args.out.now (omega (arith, asked.auto)) c.requires.in_bounds in
-    record { listed_in_bounds = room.0; listed_in_bounds_2 = room.1 }
+    let places : 4096 ≤ length c.run.new.elements = omega arith in
+    let told = rw c.in-Ok.is at c.run.ensures.work_after in
+    let lent = lends _ _ _ _ c.requires.iq_len c.requires.iq_len_bound (omega arith) (omega arith) (omega arith) in
+    record {
+      listed_in_bounds = done_places _ told c.in-Ok.f c.run.new.elements refl refl lent places;
+      listed_in_bounds_2 = subst (λ (t : List ℕ). HasRoom c.args.out.now t) (done_is _ told c.in-Ok.f c.run.new.elements refl refl lent) c.requires.in_bounds;
+    }
 
-pub returns-in-Refused : goal.returns-in-Refused
-returns-in-Refused c =
-    let told = rw c.in-Refused.is at c.run.ensures.work_after in
-    let put = c.refused in
-    subst (λ (t : List ℕ). Appended c.args.out.now 0 t put.new.out put.result)
-    (sym (refused_is _ _ told (record { is_rate = rate_bits; is_hint = hint_bits; even = c.requires.iq_len; few = c.requires.iq_len_bound; elements_places = omega arith; fits_places = omega arith; work_numbers = omega arith })))
-    put.ensures
-
-pub returns-in-Done : goal.returns-in-Done
-returns-in-Done c =
-    let asked = c.run in
-    let told = rw c.in-Done.is at asked.ensures.work_after in
-    let put = c.run_lines in
-    subst (λ (t : List ℕ). Appended c.args.out.now 0 t put.new.out put.result)
-    (sym (done_is _ told c.in-Done.f asked.new.elements refl refl (record { is_rate = rate_bits; is_hint = hint_bits; even = c.requires.iq_len; few = c.requires.iq_len_bound; elements_places = omega arith; fits_places = omega arith; work_numbers = omega arith })))
-    put.ensures
+pub returns-in-Ok : goal.returns-in-Ok
+returns-in-Ok c =
+    let told = rw c.in-Ok.is at c.run.ensures.work_after in
+    let lent = lends _ _ _ _ c.requires.iq_len c.requires.iq_len_bound (omega arith) (omega arith) (omega arith) in
+    subst (λ (t : List ℕ). Grown c.args.out.now t c.run_lines.new.out) (sym (done_is _ told c.in-Ok.f c.run.new.elements refl refl lent)) c.run_lines.ensures

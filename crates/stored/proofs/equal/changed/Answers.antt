@@ -1,32 +1,12 @@
--- The invariant: the samples that differ among the first k are counted.
-use Rattle.std.proofs.Common.{arith}
-use Rattle.stored.proofs.Rows.{changed_few, one_at_most}
-use Rattle.stored.proofs.Laws.{laws}
+-- `stored::equal::changed` meets its contract.
+use Rattle.std.proofs.Common.{rules, tests, lit<, ◌∙◌}
+use Rattle.std.proofs.lemmas.Iterator.{YieldsList-from_zip}
+use Rattle.std.proofs.lemmas.Iterator.Consumers.{YieldsList-from_filter, count_from_yields_List}
+use Rattle.stored.proofs.Rows.{differ, changed_by_pairs}
+use Rattle.stored.proofs.Chunks.{YieldsList-from_chunks_exact}
 use Rattle.stored.proofs.equal.changed.Goals as goal
 
-pub overflow_add-sum : goal.overflow_add-sum
-overflow_add-sum c =
-    let loop = c.loop-k in
-    let few = changed_few _ _ loop.k loop.sum loop.invariant.2 in
-    let one = one_at_most _ _ loop.k _ c.differing-sum.ensures in omega arith
-
-pub least-n-requires : goal.least-n-requires
-least-n-requires c = search laws
-
-pub loop-k-init : goal.loop-k-init
-loop-k-init c = search laws
-
-pub differing-sum-requires : goal.differing-sum-requires
-differing-sum-requires c = search laws
-
-pub overflow_step-k : goal.overflow_step-k
-overflow_step-k c = search laws
-
-pub loop-k-smaller : goal.loop-k-smaller
-loop-k-smaller c = search laws
-
-pub loop-k-preserved : goal.loop-k-preserved
-loop-k-preserved c = search laws
-
 pub returns : goal.returns
-returns c = search laws
+returns c =
+    count_from_yields_List c.filter.result _ c.count.ensures.ran (YieldsList-from_filter _ differ (YieldsList-from_zip (YieldsList-from_chunks_exact 2 c.args.a.now (lit< tt) (cc) (cc)) (YieldsList-from_chunks_exact 2 c.args.b.now (lit< tt) (cc) (cc))) c.filter.ensures.closure (λ x r q k. search (rules, tests)))
+    ∙ changed_by_pairs _ _

@@ -1,42 +1,12 @@
--- The invariant: the first i figures are the same.
-use Rattle.stored.proofs.Laws.{laws}
+-- `stored::equal::same_figures` meets its contract.
+use Rattle.std.proofs.Common.{rules, tests, lit<, ◌∙◌}
+use Rattle.std.proofs.lemmas.Iterator.{YieldsList-from_slice, YieldsList-from_zip}
+use Rattle.std.proofs.lemmas.Iterator.Search.{all_from_yields_List}
+use Rattle.stored.proofs.Rows.{same_stored, figures_by_pairs}
+use Rattle.stored.proofs.Chunks.{YieldsList-from_chunks_exact}
 use Rattle.stored.proofs.equal.same_figures.Goals as goal
 
-pub overflow_mul-figures : goal.overflow_mul-figures
-overflow_mul-figures c = search laws
-
 pub returns-then-stored-figures : goal.returns-then-stored-figures
-returns-then-stored-figures c = search laws
-
-pub loop-i-init : goal.loop-i-init
-loop-i-init c = search laws
-
-pub offset_bounds-figures-i : goal.offset_bounds-figures-i
-offset_bounds-figures-i c = search laws
-
-pub bounds-figures-i : goal.bounds-figures-i
-bounds-figures-i c = search laws
-
-pub overflow_mul-i : goal.overflow_mul-i
-overflow_mul-i c = search laws
-
-pub double-requires : goal.double-requires
-double-requires c = search laws
-
-pub same-requires : goal.same-requires
-same-requires c = search laws
-
-pub returns-then-not-same : goal.returns-then-not-same
-returns-then-not-same c = search laws
-
-pub overflow_step-i : goal.overflow_step-i
-overflow_step-i c = search laws
-
-pub loop-i-smaller : goal.loop-i-smaller
-loop-i-smaller c = search laws
-
-pub loop-i-preserved : goal.loop-i-preserved
-loop-i-preserved c = search laws
-
-pub returns : goal.returns
-returns c = search laws
+returns-then-stored-figures c =
+    all_from_yields_List same_stored c.all.new.self _ _ c.all.ensures.ran (YieldsList-from_zip (YieldsList-from_slice c.args.figures.now cc) (YieldsList-from_chunks_exact 8 c.args.stored.now (lit< tt) (cc) (cc))) (λ x b q k. search (rules, tests))
+    ∙ figures_by_pairs _ _ c.if-stored-figures.true

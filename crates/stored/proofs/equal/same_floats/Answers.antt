@@ -1,39 +1,11 @@
--- The invariant: the first i floats are the same.
-use Rattle.stored.proofs.Laws.{laws}
+-- `stored::equal::same_floats` meets its contract.
+use Rattle.std.proofs.Common.{rules, tests, ◌∙◌}
+use Rattle.std.proofs.lemmas.Iterator.{YieldsList-from_slice, YieldsList-from_zip}
+use Rattle.std.proofs.lemmas.Iterator.Search.{all_from_yields_List}
+use Rattle.stored.proofs.Rows.{same_pair, rows_by_pairs}
 use Rattle.stored.proofs.equal.same_floats.Goals as goal
 
-pub returns-then-b-a : goal.returns-then-b-a
-returns-then-b-a c = search laws
-
-pub loop-i-init : goal.loop-i-init
-loop-i-init c = search laws
-
-pub offset_bounds-a-i : goal.offset_bounds-a-i
-offset_bounds-a-i c = search laws
-
-pub bounds-a-i : goal.bounds-a-i
-bounds-a-i c = search laws
-
-pub offset_bounds-b-i : goal.offset_bounds-b-i
-offset_bounds-b-i c = search laws
-
-pub bounds-b-i : goal.bounds-b-i
-bounds-b-i c = search laws
-
-pub same_single-requires : goal.same_single-requires
-same_single-requires c = search laws
-
-pub returns-then-not-same_single : goal.returns-then-not-same_single
-returns-then-not-same_single c = search laws
-
-pub overflow_step-i : goal.overflow_step-i
-overflow_step-i c = search laws
-
-pub loop-i-smaller : goal.loop-i-smaller
-loop-i-smaller c = search laws
-
-pub loop-i-preserved : goal.loop-i-preserved
-loop-i-preserved c = search laws
-
-pub returns : goal.returns
-returns c = search laws
+pub returns-then-a-b : goal.returns-then-a-b
+returns-then-a-b c =
+    all_from_yields_List same_pair c.all.new.self _ _ c.all.ensures.ran (YieldsList-from_zip (YieldsList-from_slice c.args.a.now cc) (YieldsList-from_slice c.args.b.now cc)) (λ x b q k. search (rules, tests))
+    ∙ rows_by_pairs _ _ c.if-a-b.true

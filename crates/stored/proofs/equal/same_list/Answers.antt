@@ -1,42 +1,12 @@
--- The invariant: the first i numbers are the same.
-use Rattle.stored.proofs.Laws.{laws}
+-- `stored::equal::same_list` meets its contract.
+use Rattle.std.proofs.Common.{rules, tests, arith, ◌∙◌}
+use Rattle.std.proofs.lemmas.Iterator.{YieldsList-from_slice, YieldsList-from_zip, YieldsList-from_take}
+use Rattle.std.proofs.lemmas.Iterator.Consumers.{YieldsList-at}
+use Rattle.std.proofs.lemmas.Iterator.Search.{all_from_yields_List}
+use Rattle.stored.proofs.Rows.{same_pair, firsts_by_pairs}
 use Rattle.stored.proofs.equal.same_list.Goals as goal
 
-pub returns-then-a-n : goal.returns-then-a-n
-returns-then-a-n c = search laws
-
-pub returns-then-b-n : goal.returns-then-b-n
-returns-then-b-n c = search laws
-
-pub loop-i-init : goal.loop-i-init
-loop-i-init c = search laws
-
-pub offset_bounds-a-i : goal.offset_bounds-a-i
-offset_bounds-a-i c = search laws
-
-pub bounds-a-i : goal.bounds-a-i
-bounds-a-i c = search laws
-
-pub offset_bounds-b-i : goal.offset_bounds-b-i
-offset_bounds-b-i c = search laws
-
-pub bounds-b-i : goal.bounds-b-i
-bounds-b-i c = search laws
-
-pub same-requires : goal.same-requires
-same-requires c = search laws
-
-pub returns-then-not-same : goal.returns-then-not-same
-returns-then-not-same c = search laws
-
-pub overflow_step-i : goal.overflow_step-i
-overflow_step-i c = search laws
-
-pub loop-i-smaller : goal.loop-i-smaller
-loop-i-smaller c = search laws
-
-pub loop-i-preserved : goal.loop-i-preserved
-loop-i-preserved c = search laws
-
-pub returns : goal.returns
-returns c = search laws
+pub returns-then-n-b : goal.returns-then-n-b
+returns-then-n-b c =
+    all_from_yields_List same_pair c.all.new.self _ _ c.all.ensures.ran (YieldsList-from_take c.args.n (YieldsList-at c.take.ensures.source (YieldsList-from_zip (YieldsList-from_slice c.args.a.now cc) (YieldsList-from_slice c.args.b.now cc))) cc) (λ x b q k. search (rules, tests))
+    ∙ firsts_by_pairs _ _ _ (omega arith) (omega arith)

@@ -1,31 +1,34 @@
 -- `strong::amplitude_row` meets its contract: the first no is the answer, and where there is none, what the work
 -- below makes.
 use native.Mathlib.Omega.{arith}
-use mathlib.Core.Path.{◌≡◌, sym, ◌∙◌}
-use lib.ListN.{length}
-use Rattle.questions.specs.Questions.{first_no}
-use Rattle.strong.specs.Amplitude.{row_questions, row_rule}
+use mathlib.Core.Path.{sym}
+use Rattle.strong.specs.Amplitude.{row_rule}
 use Rattle.questions.proofs.Calls.{refuses, accepts}
 use Rattle.strong.proofs.AmplitudeAccepted.{row_accepted, row_result}
-use Rattle.strong.proofs.amplitude.amplitude_row.Lts as lts
-use Rattle.strong.proofs.amplitude.amplitude_row.Reads as reads
-use Rattle.strong.proofs.amplitude.amplitude_row.Tie as tie
 use Rattle.strong.proofs.amplitude.amplitude_row.Goals as goal
 
--- where no question was answered no
-all_yes : (c : lts.Else1 tie.the-claims reads.Pre reads.Post tie.handed_clauses) →
-    first_no (row_questions c.args.iq.now c.args.fs c.args.carrier_hz (length c.args.row.now) (length c.args.work.now)) ≡ 0
-all_yes c = sym c.row_no-no.ensures ∙ c.if-no-ne0.false
+pub new-recording-requires : goal.new-recording-requires
+new-recording-requires c =
+    let known = row_accepted _ _ _ _ _ (sym c.in_ok-accept_row.ensures) in
+    record { iq = known.iq_ok; rate = known.rate_ok_lem }
 
-pub amplitude_row-made-requires : goal.amplitude_row-made-requires
-amplitude_row-made-requires c =
-    let known = row_accepted c.args.iq.now c.args.fs c.args.carrier_hz (length c.args.row.now) (length c.args.work.now) (all_yes c.before.before.before.before.before) in
-    record { iq = known.iq_ok; rate = known.rate_ok_lem; sine_value = c.sine_table-sine.ensures; fs_in_bounds = known.places; fs_in_bounds_2 = known.room }
+pub amplitude_row-made-requires-clause-row_in_bounds : goal.amplitude_row-made-requires-clause-row_in_bounds
+amplitude_row-made-requires-clause-row_in_bounds c =
+    let is = c.new-recording.ensures in
+    rw (is.0, is.1) (row_accepted _ _ _ _ _ (sym c.in_ok-accept_row.ensures)).places
 
-pub returns-then-no-ne0 : goal.returns-then-no-ne0
+pub amplitude_row-made-requires-clause-work_in_bounds : goal.amplitude_row-made-requires-clause-work_in_bounds
+amplitude_row-made-requires-clause-work_in_bounds c =
+    let is = c.new-recording.ensures in
+    rw (is.0, is.1) (row_accepted _ _ _ _ _ (sym c.in_ok-accept_row.ensures)).room
+
+pub returns-in_err-accept_row-clause-work_after : goal.returns-in_err-accept_row-clause-work_after
 unfolding row_rule
-returns-then-no-ne0 c = record { work_after = refuses _ _ _ _ c.row_no-no.ensures c.if-no-ne0.true; singles = c.shared_slice_known-1.given }
+returns-in_err-accept_row-clause-work_after c = refuses _ _ _ _ _ _ c.from_residual.ensures c.in_err-accept_row.ensures
 
-pub returns : goal.returns
+pub returns-clause-work_after : goal.returns-clause-work_after
 unfolding row_rule
-returns c = record { work_after = accepts _ _ _ _ _ c.row_no-no.ensures c.if-no-ne0.false (row_result _ _ _ _ _ _ c.amplitude_row-made.ensures.0 c.amplitude_row-made.ensures.1 (omega arith)); singles = c.shared_slice_known-1.given }
+returns-clause-work_after c =
+    let is = c.new-recording.ensures in
+    let now = rw (is.0, is.1) at c.amplitude_row-made.ensures in
+    accepts _ _ _ _ c.in_ok-accept_row.ensures (row_result _ _ _ _ _ _ now.0 now.1 (omega arith))

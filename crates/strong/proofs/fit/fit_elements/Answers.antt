@@ -1,36 +1,40 @@
--- `strong::fit_elements` meets its contract: the first no is the answer, and where there is none, what the work below
--- fits.
+-- `strong::fit_elements` meets its contract: the first no is the answer, and where there is none, what the work
+-- below fits.
 use native.Mathlib.Omega.{arith}
-use mathlib.Core.Path.{◌≡◌, sym, ◌∙◌}
-use lib.ListN.{length}
-use Rattle.questions.specs.Questions.{first_no}
-use Rattle.strong.specs.Fit.{fit_questions, fit_rule}
+use mathlib.Core.Path.{sym}
+use Rattle.strong.specs.Fit.{fit_rule}
 use Rattle.questions.proofs.Calls.{refuses, accepts}
 use Rattle.strong.proofs.FitAccepted.{fit_accepted, fit_result}
-use Rattle.strong.proofs.fit.fit_elements.Lts as lts
-use Rattle.strong.proofs.fit.fit_elements.Reads as reads
-use Rattle.strong.proofs.fit.fit_elements.Tie as tie
 use Rattle.strong.proofs.fit.fit_elements.Goals as goal
 
--- where no question was answered no
-all_yes : (c : lts.Else1 tie.the-claims reads.Pre reads.Post tie.handed_clauses) →
-    first_no
-    (fit_questions c.args.iq.now c.args.fs c.args.carrier_hz c.args.elements.now c.args.count (length c.args.fits.now) (length c.args.work.now))
-    ≡ 0
-all_yes c = sym c.fit_no-no.ensures ∙ c.if-no-ne0.false
+pub new-recording-requires : goal.new-recording-requires
+new-recording-requires c =
+    let known = fit_accepted _ _ _ _ _ _ _ (sym c.in_ok-accept_fit.ensures) in
+    record { iq = known.iq_ok; rate = known.rate_ok_lem }
 
-pub fit_elements-fitted-requires : goal.fit_elements-fitted-requires
-fit_elements-fitted-requires c =
-    let known =
-    fit_accepted c.args.iq.now c.args.fs c.args.carrier_hz c.args.elements.now c.args.count (length c.args.fits.now) (length c.args.work.now)
-    (all_yes c.before.before.before.before.before) in
-    record { iq = known.iq_ok; rate = known.rate_ok_lem; sine_value = c.sine_table-sine.ensures; all_timed = known.timed; count_in_bounds = known.given; count_in_bounds_2 = known.fit_room; fs_in_bounds = known.room }
+pub invariant_of-given : goal.invariant_of-given
+invariant_of-given c = record { room = (fit_accepted _ _ _ _ _ _ _ (sym c.in_ok-accept_fit.ensures)).given }
 
-pub returns-then-no-ne0 : goal.returns-then-no-ne0
+pub fit_elements-fitted-requires-clause-all_timed : goal.fit_elements-fitted-requires-clause-all_timed
+fit_elements-fitted-requires-clause-all_timed c =
+    (fit_accepted _ _ _ _ _ _ _ (sym c.in_ok-accept_fit.ensures)).timed
+
+pub fit_elements-fitted-requires-clause-fits_room : goal.fit_elements-fitted-requires-clause-fits_room
+fit_elements-fitted-requires-clause-fits_room c =
+    (fit_accepted _ _ _ _ _ _ _ (sym c.in_ok-accept_fit.ensures)).fit_room
+
+pub fit_elements-fitted-requires-clause-work_room : goal.fit_elements-fitted-requires-clause-work_room
+fit_elements-fitted-requires-clause-work_room c =
+    let is = c.new-recording.ensures in
+    rw (is.0, is.1) (fit_accepted _ _ _ _ _ _ _ (sym c.in_ok-accept_fit.ensures)).room
+
+pub returns-in_err-accept_fit : goal.returns-in_err-accept_fit
 unfolding fit_rule
-returns-then-no-ne0 c = refuses _ _ _ _ c.fit_no-no.ensures c.if-no-ne0.true
+returns-in_err-accept_fit c = refuses _ _ _ _ _ _ c.from_residual.ensures c.in_err-accept_fit.ensures
 
 pub returns : goal.returns
 unfolding fit_rule
 returns c =
-    accepts _ _ _ _ _ c.fit_no-no.ensures c.if-no-ne0.false (fit_result _ _ _ _ _ _ c.fit_elements-fitted.ensures.0 c.fit_elements-fitted.ensures.1 (omega arith))
+    let is = c.new-recording.ensures in
+    let now = rw (is.0, is.1) at c.fit_elements-fitted.ensures in
+    accepts _ _ _ _ c.in_ok-accept_fit.ensures (fit_result _ _ _ _ _ _ now.0 now.1 (omega arith))

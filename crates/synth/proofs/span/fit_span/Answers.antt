@@ -6,8 +6,8 @@ pub returns : goal.returns
 unfolding span_of
 returns c = rw (
   rise_bits,
-  c.least.ensures,
-  c.least-hi.ensures,
+  c.min.ensures,
+  c.min-hi.ensures,
   c.to_whole-past.ensures,
   c.max-2.ensures,
   c.ceil.ensures,

@@ -10,14 +10,14 @@ use Rattle.trig.proofs.table.sine_table.Goals as goal
 
 pub loop-k-preserved : goal.loop-k-preserved
 unfolding sine_table of_bits of_int
-loop-k-preserved c = (search rules, fill_turn0 _ entry_of _ _ _ c.loop-k.invariant.1 (rw c.exact.ensures))
+loop-k-preserved c = fill_turn0 _ entry_of _ _ _ c.loop-k.invariant (rw c.exact.ensures)
 
 pub exact-requires : goal.exact-requires
 unfolding sine_table
 exact-requires c = sine_small c.loop-k.k (search rules)
 
 pub returns : goal.returns
-returns c = fill_done _ 0 entry_of 1025 _ _ c.loop-k.invariant.1 (search rules) (search rules) ∙ sines_stored _ (search rules)
+returns c = fill_done _ 0 entry_of 1025 _ _ c.loop-k.invariant (search rules) (search rules) ∙ sines_stored _ (search rules)
 
 pub loop-k-init : goal.loop-k-init
 loop-k-init c = search (rules, fill_none)

@@ -1,8 +1,0 @@
--- `elements::keying::is_long` meets its contract.
-use Rattle.elements.specs.Keying.{is_long}
-use Rattle.constants.proofs.Bits.{rise_bits}
-use Rattle.elements.proofs.keying.is_long.Goals as goal
-
-pub returns : goal.returns
-unfolding is_long
-returns c = rw rise_bits

@@ -1,0 +1,20 @@
+// A number that may be absent, as two figures.
+ghost use Rattle.std.specs.Prelude.{◌≡◌};
+ghost use Rattle.figures.specs.Optional.{present_of, value_of};
+
+// 1.0 where it is present, 0.0 where it is absent.
+pub fn present(x: Option<f64>) -> f64
+    ensures { result ≡ present_of x }
+{
+    match x {
+        Some(_) => 1.0,
+        None => 0.0,
+    }
+}
+
+// The number, 0.0 where it is absent.
+pub fn value(x: Option<f64>) -> f64
+    ensures { result ≡ value_of x }
+{
+    x.unwrap_or(0.0)
+}
