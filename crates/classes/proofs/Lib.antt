@@ -14,7 +14,7 @@
 --           which it is stored
 -- Turns     members of a list that label in turn, and the loop over them
 -- Zones     from the ranges that the code computes to near, inside, at an edge, on the rim
--- Sizes     how large a window is, and the centre of a block
+-- Sizes     how large a window and the start of a block are, and the centre of a block
 pub mod Codes
 pub mod Classes
 pub mod Counts

@@ -14,6 +14,7 @@ use trig::Sines;
 pub struct Kept<'a> {
     pub stretch: Stretch<'a>,
     pub numbers: &'a [f64],
+    pub ghost no_more: { length numbers.now / 2 ≤ stretch.len },
     pub ghost first_ones: { Derotated stretch.samples.iq.now stretch.cyc stretch.i0 0 (length numbers.now / 2) numbers.now },
 }
 

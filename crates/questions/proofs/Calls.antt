@@ -15,22 +15,22 @@ use Rattle.questions.specs.Answers.{accepted, refused, outcome_of, by_number, by
 use Rattle.questions.specs.Questions.{Asked, ask, first_no}
 use Rattle.questions.proofs.FirstNo.{AllYes, all_yes, first_asked}
 
--- ---- the two ways out of a call: with the refusal that its questions answered, and else with its result
+-- ---- the two ways out: n is the number of the first no, as the code has it
 
-refuses_some : {L A : Type 0} (first : ℕ) (result : A) (lent : L) (n : ℕ) → n ≡ first → (n ≡ 0 → ⊥) → refused n lent ≡ by_number first result lent
+pub refuses : {L A : Type 0} (first : ℕ) (result : A) (lent : L) (n : ℕ) → n ≡ first → (n ≡ 0 → ⊥) → refused n lent ≡ by_number first result lent
 unfolding by_number
-refuses_some zero result lent n e h = absurd (h e)
-refuses_some (suc first) result lent n e h = ap (λ k. refused k lent) e
+refuses zero result lent n e h = absurd (h e)
+refuses (suc first) result lent n e h = ap (λ k. refused k lent) e
 
--- `?` hands on the refusal r that it met, as the answer a
-pub refuses : {T L A : Type 0} (first : ℕ) (result : A) (lent : L) (res : T → A) (a : Result T Refusal) (r : Refusal) → IsErr a × IsErrAnd a (λ s. s ≡ r) → number_of r ≡ first
+pub accepts : {L A : Type 0} (first : ℕ) (result : A) (lent : L) (n : ℕ) (r : A) → n ≡ first → n ≡ 0 → r ≡ result → accepted r ≡ by_number first result lent
+unfolding by_number
+accepts first result lent n r e h q = let none : first ≡ 0 = omega arith in rw (none, q)
+
+-- the first as the code takes it: `?` hands on the refusal r that it met, as the answer a
+pub hands_on : {T L A : Type 0} (first : ℕ) (result : A) (lent : L) (res : T → A) (a : Result T Refusal) (r : Refusal) → IsErr a × IsErrAnd a (λ s. s ≡ r) → number_of r ≡ first
     → outcome_of a res lent ≡ by_number first result lent
-refuses first result lent res (Ok x) r h e = absurd (false≢true h.0)
-refuses first result lent res (Err s) r h e = rw h.1 (refuses_some first result lent (number_of r) e (number_some r))
-
-pub accepts : {L A : Type 0} (first : ℕ) (result : A) (lent : L) (r : A) → 0 ≡ first → r ≡ result → accepted r ≡ by_number first result lent
-unfolding by_number
-accepts first result lent r e q = rw (← e, q)
+hands_on first result lent res (Ok x) r h e = absurd (false≢true h.0)
+hands_on first result lent res (Err s) r h e = rw h.1 (refuses first result lent (number_of r) e (number_some r))
 
 -- ---- what a promise says, by the number of the first no
 

@@ -1,9 +1,9 @@
 -- `cancel::run` meets its contract: the first no is the answer, and where there is none, what the run below answers and
 -- leaves.
 use native.Mathlib.Omega.{arith}
-use mathlib.Core.Path.{sym}
+use mathlib.Core.Path.{refl, sym}
 use Rattle.cancel.specs.Running.{run_rule}
-use Rattle.questions.proofs.Calls.{refuses, accepts}
+use Rattle.questions.proofs.Calls.{hands_on, accepts}
 use Rattle.strong.proofs.EstimateAccepted.{estimate_accepted}
 use Rattle.cancel.proofs.RunAccepted.{run_result}
 use Rattle.cancel.proofs.running.run.Goals as goal
@@ -25,11 +25,11 @@ run-figures-requires-clause-work_room c = rw c.new-rate.ensures (estimate_accept
 
 pub returns-in_err-accept_estimate-clause-work_after : goal.returns-in_err-accept_estimate-clause-work_after
 unfolding run_rule
-returns-in_err-accept_estimate-clause-work_after c = refuses _ _ _ _ _ _ c.from_residual.ensures c.in_err-accept_estimate.ensures
+returns-in_err-accept_estimate-clause-work_after c = hands_on _ _ _ _ _ _ c.from_residual.ensures c.in_err-accept_estimate.ensures
 
 pub returns-clause-work_after : goal.returns-clause-work_after
 unfolding run_rule
 returns-clause-work_after c =
     let now = rw c.new-rate.ensures at c.run-figures.ensures in
-    accepts _ _ _ _ c.in_ok-accept_estimate.ensures
+    accepts _ _ _ _ _ c.in_ok-accept_estimate.ensures refl
     (run_result _ _ _ _ _ _ _ _ _ _ now.0 now.1 now.2 now.3 (omega arith))

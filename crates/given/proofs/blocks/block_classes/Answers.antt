@@ -1,15 +1,15 @@
 -- `given::block_classes` meets its contract: the first no is the answer, and where there is none, the classes that the
 -- work below labels.
 use native.Mathlib.Omega.{arith}
-use mathlib.Core.Path.{sym}
+use mathlib.Core.Path.{refl, sym}
 use Rattle.given.specs.Blocks.{classes_rule}
-use Rattle.questions.proofs.Calls.{refuses, accepts}
+use Rattle.questions.proofs.Calls.{hands_on, accepts}
 use Rattle.given.proofs.BlocksAccepted.{classes_accepted, classes_made}
 use Rattle.given.proofs.blocks.block_classes.Goals as goal
 
 pub returns-in_err-accept_classes : goal.returns-in_err-accept_classes
 unfolding classes_rule
-returns-in_err-accept_classes c = refuses _ _ _ _ _ _ c.from_residual.ensures c.in_err-accept_classes.ensures
+returns-in_err-accept_classes c = hands_on _ _ _ _ _ _ c.from_residual.ensures c.in_err-accept_classes.ensures
 
 pub invariant_of-elements : goal.invariant_of-elements
 invariant_of-elements c = record { room = (classes_accepted _ _ _ _ _ _ _ _ _ (sym c.in_ok-accept_classes.ensures)).element_room }
@@ -30,5 +30,5 @@ pub returns : goal.returns
 unfolding classes_rule
 returns c =
     let now = rw c.new-rate.ensures at c.classify_blocks.ensures in
-    accepts _ _ c.args.classes.now _ c.in_ok-accept_classes.ensures
+    accepts _ _ c.args.classes.now _ _ c.in_ok-accept_classes.ensures refl
     (classes_made c.args.iq_len c.args.fs c.args.given.now.elements.now c.args.given.now.element_count c.args.given.now.fits.now c.args.given.now.fit_count _ _ c.args.classes.now _ c.window_blocks-blocks.ensures now c.count_classes-counts.ensures c.classes-1.given.0)

@@ -1,9 +1,9 @@
 -- `given::residual_check` meets its contract: the first no is the answer, and where there is none, what the work
 -- below measures.
 use native.Mathlib.Omega.{arith}
-use mathlib.Core.Path.{sym}
+use mathlib.Core.Path.{refl, sym}
 use Rattle.given.specs.Residual.{residual_rule}
-use Rattle.questions.proofs.Calls.{refuses, accepts}
+use Rattle.questions.proofs.Calls.{hands_on, accepts}
 use Rattle.given.proofs.MeasuresAccepted.{measure_accepted, residual_result}
 use Rattle.given.proofs.residual.residual_check.Goals as goal
 
@@ -25,11 +25,11 @@ residual_check-check-requires c =
 
 pub returns-in_err-accept_measure-clause-work_after : goal.returns-in_err-accept_measure-clause-work_after
 unfolding residual_rule
-returns-in_err-accept_measure-clause-work_after c = refuses _ _ _ _ _ _ c.from_residual.ensures c.in_err-accept_measure.ensures
+returns-in_err-accept_measure-clause-work_after c = hands_on _ _ _ _ _ _ c.from_residual.ensures c.in_err-accept_measure.ensures
 
 pub returns-clause-work_after : goal.returns-clause-work_after
 unfolding residual_rule
 returns-clause-work_after c =
     let is = c.new-recording.ensures in
     let now = rw (is.0, is.1) at c.residual_check-check.ensures in
-    accepts _ _ _ _ c.in_ok-accept_measure.ensures (residual_result _ _ _ _ now (omega arith))
+    accepts _ _ _ _ _ c.in_ok-accept_measure.ensures refl (residual_result _ _ _ _ now (omega arith))

@@ -1,9 +1,9 @@
 -- `strong::amplitude_row` meets its contract: the first no is the answer, and where there is none, what the work
 -- below makes.
 use native.Mathlib.Omega.{arith}
-use mathlib.Core.Path.{sym}
+use mathlib.Core.Path.{refl, sym}
 use Rattle.strong.specs.Amplitude.{row_rule}
-use Rattle.questions.proofs.Calls.{refuses, accepts}
+use Rattle.questions.proofs.Calls.{hands_on, accepts}
 use Rattle.strong.proofs.AmplitudeAccepted.{row_accepted, row_result}
 use Rattle.strong.proofs.amplitude.amplitude_row.Goals as goal
 
@@ -24,11 +24,11 @@ amplitude_row-made-requires-clause-work_in_bounds c =
 
 pub returns-in_err-accept_row-clause-work_after : goal.returns-in_err-accept_row-clause-work_after
 unfolding row_rule
-returns-in_err-accept_row-clause-work_after c = refuses _ _ _ _ _ _ c.from_residual.ensures c.in_err-accept_row.ensures
+returns-in_err-accept_row-clause-work_after c = hands_on _ _ _ _ _ _ c.from_residual.ensures c.in_err-accept_row.ensures
 
 pub returns-clause-work_after : goal.returns-clause-work_after
 unfolding row_rule
 returns-clause-work_after c =
     let is = c.new-recording.ensures in
     let now = rw (is.0, is.1) at c.amplitude_row-made.ensures in
-    accepts _ _ _ _ c.in_ok-accept_row.ensures (row_result _ _ _ _ _ _ now.0 now.1 (omega arith))
+    accepts _ _ _ _ _ c.in_ok-accept_row.ensures refl (row_result _ _ _ _ _ _ now.0 now.1 (omega arith))

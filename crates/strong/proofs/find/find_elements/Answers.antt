@@ -1,9 +1,9 @@
 -- `strong::find_elements` meets its contract: the first no is the answer, and where there is none, what the work
 -- below finds.
 use native.Mathlib.Omega.{arith}
-use mathlib.Core.Path.{sym}
+use mathlib.Core.Path.{refl, sym}
 use Rattle.strong.specs.Find.{find_rule}
-use Rattle.questions.proofs.Calls.{refuses, accepts}
+use Rattle.questions.proofs.Calls.{hands_on, accepts}
 use Rattle.strong.proofs.FindAccepted.{find_accepted, find_result}
 use Rattle.strong.proofs.find.find_elements.Goals as goal
 
@@ -24,11 +24,11 @@ find_elements-found-requires-clause-work_in_bounds c =
 
 pub returns-in_err-accept_find-clause-work_after : goal.returns-in_err-accept_find-clause-work_after
 unfolding find_rule
-returns-in_err-accept_find-clause-work_after c = refuses _ _ _ _ _ _ c.from_residual.ensures c.in_err-accept_find.ensures
+returns-in_err-accept_find-clause-work_after c = hands_on _ _ _ _ _ _ c.from_residual.ensures c.in_err-accept_find.ensures
 
 pub returns-clause-work_after : goal.returns-clause-work_after
 unfolding find_rule
 returns-clause-work_after c =
     let is = c.new-recording.ensures in
     let now = rw (is.0, is.1) at c.find_elements-found.ensures in
-    accepts _ _ _ _ c.in_ok-accept_find.ensures (find_result _ _ _ _ _ _ now.0 now.1 (omega arith))
+    accepts _ _ _ _ _ c.in_ok-accept_find.ensures refl (find_result _ _ _ _ _ _ now.0 now.1 (omega arith))

@@ -1,9 +1,9 @@
 -- `strong::fit_elements` meets its contract: the first no is the answer, and where there is none, what the work
 -- below fits.
 use native.Mathlib.Omega.{arith}
-use mathlib.Core.Path.{sym}
+use mathlib.Core.Path.{refl, sym}
 use Rattle.strong.specs.Fit.{fit_rule}
-use Rattle.questions.proofs.Calls.{refuses, accepts}
+use Rattle.questions.proofs.Calls.{hands_on, accepts}
 use Rattle.strong.proofs.FitAccepted.{fit_accepted, fit_result}
 use Rattle.strong.proofs.fit.fit_elements.Goals as goal
 
@@ -30,11 +30,11 @@ fit_elements-fitted-requires-clause-work_room c =
 
 pub returns-in_err-accept_fit : goal.returns-in_err-accept_fit
 unfolding fit_rule
-returns-in_err-accept_fit c = refuses _ _ _ _ _ _ c.from_residual.ensures c.in_err-accept_fit.ensures
+returns-in_err-accept_fit c = hands_on _ _ _ _ _ _ c.from_residual.ensures c.in_err-accept_fit.ensures
 
 pub returns : goal.returns
 unfolding fit_rule
 returns c =
     let is = c.new-recording.ensures in
     let now = rw (is.0, is.1) at c.fit_elements-fitted.ensures in
-    accepts _ _ _ _ c.in_ok-accept_fit.ensures (fit_result _ _ _ _ _ _ now.0 now.1 (omega arith))
+    accepts _ _ _ _ _ c.in_ok-accept_fit.ensures refl (fit_result _ _ _ _ _ _ now.0 now.1 (omega arith))
