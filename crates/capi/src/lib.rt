@@ -1,5 +1,5 @@
-// The C interface, a file for each subject: include/cancel.h says the same for a reader of C. Each function's parameters
-// are the header's, so that a given estimate comes in its six parts.
+// The C interface, a file for each subject: include/cancel.h says the same for a reader of C. Each function's
+// parameters are the header's, so that a given estimate comes in its six parts.
 #![tactic(auto)]
 
 mod answers;

@@ -27,6 +27,7 @@ pub extern "C" fn cancel_subtract(
         fits,
         fit_count,
     };
+    // A subtraction has no figures, so `told`, which writes them, is not asked.
     match cancel::subtract(buf, fs, &given) {
         Ok(()) => 0,
         Err(refusal) => u64::from(refusal),

@@ -7,7 +7,7 @@ use lib.Dec.{eqb}
 use lib.Ieee.{eq, of_int}
 use Rattle.classes.specs.declared.class.BlockClass.{BlockClass}
 use Rattle.classes.specs.declared.class.BlockClass.TheVariants.{Edge, Interior, Gap, Other}
-use Rattle.classes.specs.Class.{number_of, code_of, is_class}
+use Rattle.classes.specs.Class.{class_number, code_of, is_class}
 
 pub code_tells : (c d : BlockClass) → eq (code_of d) (code_of c) ≡ is_class c d
 unfolding eq of_int
@@ -32,7 +32,7 @@ code_tells Other Other = refl
 named : ℕ → BlockClass
 named n = cond (eqb n 0) Edge (cond (eqb n 1) Interior (cond (eqb n 2) Gap Other))
 
-named_back : (c : BlockClass) → named (number_of c) ≡ c
+named_back : (c : BlockClass) → named (class_number c) ≡ c
 unfolding named
 named_back Edge = refl
 named_back Interior = refl
@@ -40,4 +40,4 @@ named_back Gap = refl
 named_back Other = refl
 
 pub class_same : (c d : BlockClass) → is_class c d ≡ true → c ≡ d
-class_same c d e = sym (named_back c) ∙ ap named (eqb-true (number_of c) (number_of d) e) ∙ named_back d
+class_same c d e = sym (named_back c) ∙ ap named (eqb-true (class_number c) (class_number d) e) ∙ named_back d

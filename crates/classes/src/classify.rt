@@ -38,7 +38,8 @@ fn label_range(w: Windows, lo: f64, hi: f64, c: BlockClass, class: &mut [f64])
 }
 
 // Each block of a slice whose centre passes a test. The first block starts at sample `first`; where the others start is
-// added up.
+// added up by hand in `from`, and not counted by `enumerate`, so that no turn of the loop has a product of a block's
+// number and length (docs/DECISIONS.md, 46).
 fn label_where<F: Fn(f64) -> bool>(
     w: Windows,
     first: usize,
@@ -62,8 +63,8 @@ fn label_where<F: Fn(f64) -> bool>(
     }
 }
 
-// Rust: the loop over the blocks of an interior. The row stands in the slice that C lends, so that its length is a
-// clause here, in label_interior, label_fit and label_rim, and no type's.
+// Rust: the loop over the blocks of an interior. That the row is short is a clause here, in label_interior, label_fit
+// and label_rim: a type of short rows would be lent as `&mut`, and each would have to say that it hands back as many.
 fn label_amid(w: Windows, lo: f64, hi: f64, c: BlockClass, class: &mut [f64])
     requires { length class.old ≤ 131072 }
     ensures { class.new ≡ labelled class.old (amid w.len lo hi) (code_of c) }

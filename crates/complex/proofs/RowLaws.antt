@@ -1,18 +1,19 @@
 -- Rows of complex numbers in flat lists: loops that sum and store them, and what is read back.
-use Prim.Native.Nat.{ℕ, zero, suc, ◌+◌, ◌-◌, ◌*◌, ◌<◌, ◌≤◌}
+use Prim.Native.Nat.{ℕ, zero, suc, ◌+◌, ◌-◌, ◌*◌, ◌/◌, ◌<◌, ◌≤◌}
 use native.Mathlib.Numerals.{add-one}
 use native.Mathlib.Omega.{arith}
-use native.Mathlib.Nat.{not-suc-le-zero, eq-or-lt_of_le, le_of_suc-le-suc}
-use mathlib.Core.Path.{◌≡◌, refl, ◌∙◌}
-use mathlib.Core.List.{List}
+use native.Mathlib.Nat.{add-zero, not-suc-le-zero, eq-or-lt_of_le, le_of_suc-le-suc}
+use mathlib.Core.Path.{◌≡◌, refl, ap, ◌∙◌}
+use mathlib.Core.List.{List, []}
 use mathlib.Core.Logic.{◌≢◌, ⊎_elim}
-use lib.ListN.{length, set, length-set}
-use lib.Seq.{get_or-set_same, get_or-set_other}
+use lib.Dec.{lit<}
+use lib.ListN.{length, get_or, set, take, drop, length-set, length-drop}
+use lib.Seq.{get_or-set_same, get_or-set_other, get_or-take, get_or-drop, length-take-le}
 use lib.Ieee.{Float, nan}
-use Rattle.lists.specs.Fill.{fill}
-use Rattle.lists.proofs.Fill.{get_d_fill_below}
+use Rattle.std.specs.Simd.{first_chunks}
+use Rattle.lists.proofs.Chunks.{chunk_read}
 use Rattle.complex.specs.declared.value.Complex.{Complex}
-use Rattle.complex.specs.Value.{c_zero, c_add}
+use Rattle.complex.specs.Value.{c_new, c_zero, c_add}
 use Rattle.complex.specs.Rows.{z_at, z_set, c_sum, z_fill}
 
 -- A loop that sums the numbers from a, at k: before it, a turn of it, and after it. The premises are what the code's
@@ -44,6 +45,34 @@ c_sum_turn0 f a n acc x r p q e = rw (add-one, e, p, q)
 pub c_sum_done0 : (f : ℕ → Complex) (a n k : ℕ) (acc : Complex) → acc ≡ c_sum f a k → k ≤ n → n ≤ k → acc ≡ c_sum f a n
 c_sum_done0 f a n k acc p h g = let all : k ≡ n = omega arith in rw all at p
 
+-- a loop over the n numbers from a, two floats each
+module _ (l : List Float) (a n : ℕ) (room : 2 * (a + n) ≤ length l) where
+  abbrev part : List Float
+  part = take (2 * (a + n) - 2 * a) (drop (2 * a) l)
+
+  length_part : length part ≡ 2 * n
+  length_part =
+      let long : 2 * (a + n) - 2 * a ≤ length (drop (2 * a) l) = rw (length-drop (2 * a) l) (omega arith) in
+      length-take-le (2 * (a + n) - 2 * a) (drop (2 * a) l) long ∙ omega arith
+
+  read_part : (pairs : List (List Float)) (k i : ℕ) → pairs ≡ first_chunks 2 (length part / 2) part → k < n → i < 2
+      → get_or (get_or pairs k []) i nan ≡ get_or l (2 * (a + k) + i) nan
+  read_part pairs k i e h g =
+      let there : 2 * a + (2 * k + i) ≡ 2 * (a + k) + i = omega arith in
+      rw e (
+      chunk_read 2 (length part / 2) part k i [] nan (rw length_part (omega arith)) g
+      ∙ get_or-take (2 * (a + n) - 2 * a) (drop (2 * a) l) (2 * k + i) nan (omega arith)
+      ∙ get_or-drop (2 * a) l (2 * k + i) nan
+      ∙ ap (λ j. get_or l j nan) there)
+
+  pub pair_read : (pairs : List (List Float)) (k : ℕ) → pairs ≡ first_chunks 2 (length part / 2) part → k < n
+      → c_new (get_or (get_or pairs k []) 0 nan) (get_or (get_or pairs k []) 1 nan) ≡ z_at l (a + k)
+  pair_read pairs k e h =
+      rw (read_part pairs k 0 e h (lit< tt), read_part pairs k 1 e h (lit< tt), add-zero (2 * (a + k))) refl
+
+  pub pairs_number : (pairs : List (List Float)) → length pairs ≡ length part / 2 → length pairs ≡ n
+  pairs_number pairs e = e ∙ rw length_part (omega arith)
+
 pub z_fill_none : (l : List Float) (at : ℕ) (f : ℕ → Complex) → l ≡ z_fill l at f 0
 unfolding z_fill
 z_fill_none l at f = refl
@@ -53,9 +82,6 @@ pub z_fill_turn0 : (l : List Float) (f : ℕ → Complex) (n : ℕ) (cur new : L
     → cur ≡ z_fill l 0 f n → z ≡ f n → new ≡ z_set cur n z → new ≡ z_fill l 0 f (n + 1)
 unfolding z_fill
 z_fill_turn0 l f n cur new z p e h = let here : 0 + n ≡ n = omega arith in rw (add-one, here, h, p, e)
-
-pub z_fill_done : (l : List Float) (at : ℕ) (f : ℕ → Complex) (n k : ℕ) (cur : List Float) → cur ≡ z_fill l at f k → k ≤ n → n ≤ k → cur ≡ z_fill l at f n
-z_fill_done l at f n k cur p h g = let all : k ≡ n = omega arith in rw all at p
 
 pub length_z_fill : (l : List Float) (at : ℕ) (f : ℕ → Complex) (n : ℕ) → length (z_fill l at f n) ≡ length l
 unfolding z_fill
@@ -107,8 +133,3 @@ pub z_fill_cong : (l : List Float) (at : ℕ) (f g : ℕ → Complex) (n : ℕ) 
 unfolding z_fill
 z_fill_cong l at f g zero h = refl
 z_fill_cong l at f g (suc n) h = rw (z_fill_cong l at f g n (λ k b. h k (omega arith)), h n (omega arith))
-
--- what lies below a row of floats is as it was
-pub z_at_fill_below : (l : List Float) (at : ℕ) (f : ℕ → Float) (n k : ℕ) → 2 * k + 1 < at → z_at (fill l at f n) k ≡ z_at l k
-z_at_fill_below l at f n k h =
-    rw (get_d_fill_below l at f n (2 * k) nan (omega arith), get_d_fill_below l at f n (2 * k + 1) nan h)

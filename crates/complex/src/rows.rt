@@ -28,8 +28,9 @@ pub fn sum(row: &[f64], a: usize, n: usize) -> Complex
     ensures { result ≡ c_sum (z_at row.now) a n }
 {
     let mut acc = Complex::ZERO;
-    for j in 0..n {
-        acc = acc.add(get(row, a + j));
+    let (numbers, _) = row[2 * a..2 * (a + n)].as_chunks::<2>();
+    for [re, im] in numbers {
+        acc = acc.add(Complex::new(*re, *im));
     }
     acc
 }

@@ -24,6 +24,7 @@ pub fn cos_sin(angles: &[f64], out: &mut [f64], sine: &Sines) -> usize
         × (out.new ≡ z_fill out.old 0 (unit_at angles.now) (min (length angles.now) (length out.old / 2))) }
 {
     let n = angles.len().min(out.len() / 2);
+    // By their number: of pairs that chunks_exact_mut or as_chunks_mut lends nothing is known once they are back.
     for (k, angle) in angles[..n].iter().enumerate() {
         put(out, k, unit(*angle, sine));
     }

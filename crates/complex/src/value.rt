@@ -1,5 +1,5 @@
 // A complex number of two f64: a value with its own operations, each made of single rounded operations in the order
-// of num_complex.
+// of num_complex. They are methods that take self by value, and no `impl Add`: 01 names that form.
 ghost use Rattle.std.specs.Prelude.{◌≡◌};
 ghost use Rattle.complex.specs.Value.{c_new, c_add, c_sub, c_mul, c_conj, c_norm_sqr, c_norm, c_arg, c_div, c_polar};
 

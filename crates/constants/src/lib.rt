@@ -63,5 +63,5 @@ pub const PAIR_FACTOR: f64 = 10.0;
 // How far to either side of the carrier the reference for noise is measured.
 pub const REFERENCE_OFFSET_HZ: f64 = 500.0;
 
-// The smallest normal f64, below which no power is taken. Rust: f64::MIN_POSITIVE.
-pub const MIN_POSITIVE: f64 = 2.2250738585072014e-308;
+// The smallest normal f64, below which no power is taken.
+pub const MIN_POSITIVE: f64 = f64::MIN_POSITIVE;

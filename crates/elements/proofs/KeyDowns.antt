@@ -1,5 +1,5 @@
--- Which pairs `row_key_downs` has: each upward crossing with the next downward one, each once, in order (01, part 3). For
--- every row and threshold; where a row must have no NaN, the theorem says so. Assumes nothing.
+-- Which pairs `row_key_downs` has: each upward crossing with the next downward one, each once, in order (01, part 3).
+-- For every row and threshold; where a row must have no NaN, the theorem says so. Assumes nothing.
 use Rattle.std.proofs.Common.{Some, None}
 use Rattle.std.specs.declared.option.Option.{Option}
 use Prim.Native.Nat.{ℕ, zero, suc, ◌+◌, ◌-◌, ◌*◌, ◌≤◌, ◌<◌}

@@ -34,8 +34,8 @@ pub record KeyDown : Type 0 where
 abbrev pub key_down : ℕ → ℕ → KeyDown
 key_down u d = record { up = u; down = d }
 
--- As a property of a pair of positions up to `last`. `key_down_is` of the proofs says that `row_key_downs` below has the
--- pairs with it and no others.
+-- As a property of a pair of positions up to `last`. `key_down_is` of the proofs says that `row_key_downs` below has
+-- the pairs with it and no others.
 pub record IsKeyDown (row : ℕ → Float) (thr : Float) (last : ℕ) (k : KeyDown) : Type 0 where
   pub rises : upward row thr k.up ≡ true
   pub falls : downward row thr k.down ≡ true

@@ -7,7 +7,7 @@ ghost use Rattle.lists.specs.Records.{handed, handed_numbers};
 ghost use Rattle.elements.specs.Find.{amplitude_row_of};
 
 use crate::threshold::row_threshold;
-use row::{Recording, amplitudes};
+use row::{Recording, amplitudes, copy};
 use trig::Sines;
 
 // How many amplitudes the row has, and its threshold.
@@ -65,7 +65,7 @@ pub fn amplitude_row(
         (row_length recording.now.samples.iq.now recording.now.rate.hz)) row.old) }
 {
     let made = make_row(recording, carrier, work, sine);
-    row[..made.len()].copy_from_slice(made);
+    copy(made, &mut row[..made.len()]);
     AmplitudeRow {
         amplitudes: made.len(),
         threshold: row_threshold(made),

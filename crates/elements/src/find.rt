@@ -14,7 +14,11 @@ use row::Recording;
 use trig::Sines;
 
 // Rust: find_elements, which answers the elements as a list of its own and counts nothing. Its way out for n < window
-// needs no test here: the row is then empty and has no percentile.
+// needs no test here: the row is then empty and has no percentile. The two `let .. else` are `row_threshold` written
+// out, since 01 names that form: percentile's none leaves find_elements by let .. else with an empty list.
+// What room the list and the work slice have stands in clauses, here and in amplitude.rt: it is said of the recording
+// and a lent slice. A type over both would be lent as `&mut`, and each call would need a clause that the recording in
+// it stays the same.
 pub fn find_elements(
     recording: &Recording,
     carrier: f64,

@@ -104,8 +104,8 @@ impl<'a> Walk<'a> {
         e.end - e.start >= RISE_S * self.fs
     }
 
-    // The downward crossing at i ends the key-down of the pending upward one, if there is one. It is counted, and stored
-    // if it is long enough.
+    // The downward crossing at i ends the key-down of the pending upward one, if there is one. It is counted, and
+    // stored if it is long enough.
     fn close(&self, rising: Option<usize>, i: usize, found: Found, elements: &mut [f64]) -> Found
         requires le_i { (1 ≤ i) × (i < length self.now.row.now) }
         requires row_in_bounds { ELEMENT * (length self.now.row.now / 2) ≤ length elements.old }

@@ -17,7 +17,7 @@ impl<'a, const WIDTH: usize> Places<'a, WIDTH> {
         Places { numbers, count }
     }
 
-    // One after the other.
+    // One after the other. What a place holds is read by `element_at` or `fit_at`, of place 0, as callers read a list.
     pub fn each(&self) -> &'a [[f64; WIDTH]]
         requires { 0 < WIDTH }
         ensures value { result.now ≡ first_chunks WIDTH self.now.count self.now.numbers.now }

@@ -5,5 +5,5 @@
 --           and `its_word`; how it ends, `ended`
 pub mod Counts
 pub mod Ran
--- Takes     the four conditions, one after the other: `not_two`, `too_few`, `step_small`, `step_large`
+-- Takes     the four conditions, where the first three hold: `step_small`
 pub mod Takes

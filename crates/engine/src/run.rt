@@ -13,7 +13,7 @@ ghost use Rattle.engine.specs.Run.{is_two, takes, run_figures, run_buffer};
 use classes::ClassCounts;
 use constants::{MAX_CARRIER_STEP_HZ, MIN_ELEMENTS};
 use elements::Elements;
-use fits::{Estimate, Fits, estimate_strong};
+use fits::{Estimate, Fits, StrongSender, estimate_strong};
 use measure::{Hypothesis, ResidualCheck, SecondCarrierEvidence, classify, measure_both};
 use row::{Recording, SampleRate, Samples};
 use synth::subtract;
@@ -61,6 +61,8 @@ fn subtract_where(taken: bool, buf: &mut [f32], fs: f64, carrier: f64, fits: &Fi
 
 // What a run finds out, of a recording that it only reads: estimate, residual, evidence, hypothesis, and whether all
 // four conditions hold. The lists receive the elements and the fits of the second pass.
+// What room the lists and the work slice have stands in clauses: it is said of the recording and a lent slice. A type
+// over both would be lent as `&mut`, and each call would need a clause that the recording in it stays the same.
 fn find_out(
     recording: &Recording,
     hint: f64,
@@ -78,24 +80,22 @@ fn find_out(
         × (handed_fits fits.new result.estimate.fitted ≡ handed FIT (strong_fits recording.now.samples.iq.now recording.now.rate.hz hint) fits.old) }
 {
     let estimate = estimate_strong(recording, hint, elements, fits, work, sine);
-    let carrier = estimate.carrier_hz;
-    let listed = Elements {
-        numbers: elements,
-        count: estimate.found.listed,
+    let listed = Elements::new(elements, estimate.found.listed);
+    let fitted = Fits::new(fits, estimate.fitted);
+    let sender = StrongSender {
+        carrier_hz: estimate.carrier_hz,
+        elements: listed,
+        fits: fitted,
     };
-    let fitted = Fits {
-        numbers: fits,
-        count: estimate.fitted,
-    };
-    let m = measure_both(recording, carrier, &listed, &fitted, work, sine);
+    let m = measure_both(recording, &sender, work, sine);
     let hypothesis = classify(m.evidence);
     let step = estimate.carrier_step_hz;
-    let taken = takes_off(hypothesis, fitted.count, step, m.residual);
+    let taken = takes_off(hypothesis, estimate.fitted, step, m.residual);
     RunFigures {
         samples: recording.samples.count(),
         window: recording.rate.window(),
         estimate,
-        skipped: listed.count - fitted.count,
+        skipped: estimate.found.listed - estimate.fitted,
         blocks: m.blocks,
         classes: m.classes,
         residual: m.residual,
@@ -105,7 +105,8 @@ fn find_out(
     }
 }
 
-// It finds out, then it subtracts where it takes the strong sender off.
+// It finds out, then it subtracts where it takes the strong sender off. The buffer is written to then, so that it comes
+// as `&mut` with its rate and not as a `Recording`, whose samples are lent for reading alone.
 pub fn run(
     buf: &mut [f32],
     rate: SampleRate,

@@ -5,5 +5,5 @@ ghost use Rattle.figures.specs.Flag.{flag_of};
 pub fn flag(yes: bool) -> f64
     ensures { result ≡ flag_of yes }
 {
-    if yes { 1.0 } else { 0.0 }
+    f64::from(yes)
 }

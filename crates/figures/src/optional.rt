@@ -2,14 +2,13 @@
 ghost use Rattle.std.specs.Prelude.{◌≡◌};
 ghost use Rattle.figures.specs.Optional.{present_of, value_of};
 
+use crate::flag::flag;
+
 // 1.0 where it is present, 0.0 where it is absent.
 pub fn present(x: Option<f64>) -> f64
     ensures { result ≡ present_of x }
 {
-    match x {
-        Some(_) => 1.0,
-        None => 0.0,
-    }
+    flag(x.is_some())
 }
 
 // The number, 0.0 where it is absent.

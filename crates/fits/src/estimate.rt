@@ -21,6 +21,9 @@ pub struct Pass {
 }
 
 // The elements at a carrier go into one list, and their fits into another.
+// What room the lists and the work slice have stands in clauses, here, in fit.rt and in list.rt: it is said of the
+// recording and a lent slice. A type over both would be lent as `&mut`, and each call would need a clause that the
+// recording in it stays the same.
 fn find_and_fit(
     recording: &Recording,
     carrier: f64,
@@ -51,6 +54,14 @@ pub struct Estimate {
     pub carrier_step_hz: f64,
     pub found: Found,
     pub fitted: usize,
+}
+
+// A strong sender as its estimate has it. Rust: StrongEstimate, as the measures read it.
+#[derive(Clone, Copy)]
+pub struct StrongSender<'a> {
+    pub carrier_hz: f64,
+    pub elements: Elements<'a>,
+    pub fits: Fits<'a>,
 }
 
 // Rust: estimate_strong. Both lists hand out the second pass; what the first left behind it there is free.

@@ -77,8 +77,6 @@ pub fn fit_one(
 {
     let fs = recording.rate.hz;
     let block = slope_block(fs);
-    let Some(inside) = interior_of(recording.samples.count(), fs, e.start, e.end) else {
-        return None;
-    };
+    let inside = interior_of(recording.samples.count(), fs, e.start, e.end)?;
     fit_inside(&recording.samples, cyc, block, e, inside, work, sine)
 }

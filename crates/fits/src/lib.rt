@@ -7,6 +7,6 @@ pub mod fit;
 pub mod list;
 
 pub use carrier::mean_slope_hz;
-pub use estimate::{Estimate, estimate_strong};
+pub use estimate::{Estimate, StrongSender, estimate_strong};
 pub use fit::{ElementFit, fit_one};
 pub use list::{FIT, Fits, fit_at, fit_elements, put_fit};

@@ -129,11 +129,8 @@ amount_half (fin true m e) h = absurd h.plus
 amount_half (fin false m e) h =
     unfold mul in
     round_amount (1 * 1 * (m * up e)) (2 ^ 1 * down e) (fin false m e) (m * up e) (down e) (mul-pos (lit< tt) (down_pos e)) (down_pos e) h (refl, refl)
-    (halved (1 * 1 * (m * up e)) (m * up e) (down e) (2 ^ 1 * down e) (one-mul (m * up e)) (once (down e)))
+    (halved (1 * 1 * (m * up e)) (m * up e) (down e) (2 ^ 1 * down e) (one-mul (m * up e)) (omega arith))
   where
-    once : (d : ℕ) → d ≤ 2 * d
-    once d = omega arith
-
     halved : (n x d e : ℕ) → n ≡ x → d ≤ e → n * d ≤ x * e
     halved n x d e p l = le_trans (le_of_eq (ap (λ (z : ℕ). z * d) p)) (mul-le-mul_left x l)
 
@@ -202,14 +199,8 @@ unfolding sum apart
 distance a b c = go (ltb a b) (ltb→lt a b) (nltb→le a b)
   where
     go : (t : Bool) → (T t → a < b) → (T (not t) → b ≤ a) → cond t (round binary64 true (b - a) c) (round binary64 false (a - b) c) ≡ round binary64 t (a - b + (b - a)) c
-    go true h g = ap (λ (z : ℕ). round binary64 true z c) (more a b (h tt))
-      where
-        more : (a b : ℕ) → a < b → b - a ≡ a - b + (b - a)
-        more a b h = omega arith
-    go false h g = ap (λ (z : ℕ). round binary64 false z c) (less a b (g tt))
-      where
-        less : (a b : ℕ) → b ≤ a → a - b ≡ a - b + (b - a)
-        less a b h = omega arith
+    go true h g = ap (λ (z : ℕ). round binary64 true z c) (omega (arith, h tt))
+    go false h g = ap (λ (z : ℕ). round binary64 false z c) (omega (arith, g tt))
 
 counts_lt : (x y : Float) (a b : ℕ) → HasValue x false a (2 ^ 1074) → HasValue y false b (2 ^ 1074) → T (lt x y) → a < b
 counts_lt x y a b v w h = lt_of_mul-lt-mul_right (2 ^ 1074) (lt→cross x y a (2 ^ 1074) b (2 ^ 1074) (pow_pos 1074) (pow_pos 1074) v w h)

@@ -29,14 +29,8 @@ whole_back f w n h k = (unsigned_back f w n (whole_in f n h) k).1
 pub whole_le : (f : Format) (a b : ℕ) → a ≤ 2 ^ prec f → b ≤ 2 ^ prec f → le (of_int f (pos a)) (of_int f (pos b)) ≡ leb a b
 whole_le f a b h k =
     same_truth (le (of_int f (pos a)) (of_int f (pos b))) (leb a b)
-    (λ t. le→leb a b (cancel a b (le→value (of_int f (pos a)) (of_int f (pos b)) a 1 b 1 (lit< tt) (lit< tt) (whole_value f a h) (whole_value f b k) t)))
-    (λ t. le_of_values (of_int f (pos a)) (of_int f (pos b)) a 1 b 1 (lit< tt) (lit< tt) (whole_value f a h) (whole_value f b k) (ones a b (leb→le a b t)))
-  where
-    cancel : (a b : ℕ) → a * 1 ≤ b * 1 → a ≤ b
-    cancel a b h = omega arith
-
-    ones : (a b : ℕ) → a ≤ b → a * 1 ≤ b * 1
-    ones a b h = omega arith
+    (λ t. le→leb a b (omega (arith, le→value (of_int f (pos a)) (of_int f (pos b)) a 1 b 1 (lit< tt) (lit< tt) (whole_value f a h) (whole_value f b k) t)))
+    (λ t. le_of_values (of_int f (pos a)) (of_int f (pos b)) a 1 b 1 (lit< tt) (lit< tt) (whole_value f a h) (whole_value f b k) (omega (arith, leb→le a b t)))
 
 -- ---- single operations
 pub whole_add : (f : Format) (a b : ℕ) → a ≤ 2 ^ prec f → b ≤ 2 ^ prec f → add f (of_int f (pos a)) (of_int f (pos b)) ≡ of_int f (pos (a + b))

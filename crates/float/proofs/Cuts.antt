@@ -38,19 +38,13 @@ round_at_one a c C l h =
     let K = closest a c in
     let lo : 2 ^ 1126 * c ≤ n = le_trans (le_of_eq (mul_right_comm (2 ^ 52) (2 ^ 1074) c)) (mul-le-mul_right (2 ^ 1074) l) in
     let hi : n < 2 ^ 1127 * c = lt_of_lt_of_le (mul-lt-mul_of_pos_right h (pow_pos 1074)) (le_of_eq (mul_right_comm (2 ^ 53) c (2 ^ 1074))) in
-    let k : size (n / c) - 53 ≡ 1074 = both (size (n / c)) (size_gt (n / c) 1126 ((le-div_iff_mul-le C).1 lo)) (size-le (n / c) 1127 ((div-lt_iff_lt-mul C).1 hi)) in
+    let k : size (n / c) - 53 ≡ 1074 = omega (arith, size_gt (n / c) 1126 ((le-div_iff_mul-le C).1 lo), size-le (n / c) 1127 ((div-lt_iff_lt-mul C).1 hi)) in
     let is : round binary64 false a c ≡ units binary64 false K 1074 =
     round_is binary64 false a c ∙ ap (λ (z : ℕ). core binary64 false n c z) k
     ∙ ap (λ (z : ℕ). units binary64 false z 1074) (closest_same n (c * 2 ^ 1074) a c (mul-pos C (pow_pos 1074)) C (mul_assoc a (2 ^ 1074) c ∙ ap (λ (z : ℕ). a * z) (mul_comm (2 ^ 1074) c))) in
-    let few : K < 2 ^ 54 = lt_of_le_of_lt (closest_bounds a c).1 (top (a / c) ((div-lt_iff_lt-mul C).1 h)) in
+    let few : K < 2 ^ 54 = lt_of_le_of_lt (closest_bounds a c).1 (omega (arith, (div-lt_iff_lt-mul C).1 h)) in
     subst (λ (z : Float). HasValue z false K 1) (sym is)
     (revalue (units binary64 false K 1074) false (K * 2 ^ 1074) (2 ^ 1074) K 1 (pow_pos 1074) (mul-one (K * 2 ^ 1074)) (units_val binary64 false K 1074 (lt_of_lt_of_le (shl_lt 54 1074 few) (lit≤ tt))))
-  where
-    both : (z : ℕ) → 1126 < z → z ≤ 1127 → z - 53 ≡ 1074
-    both z a b = omega arith
-
-    top : (q : ℕ) → q < 2 ^ 53 → suc q < 2 ^ 54
-    top q h = omega arith
 
 -- ---- 2 ^ 52 more
 plus_open : (m : ℕ) (e : ℤ) → add binary64 (fin false m e) limit ≡ round binary64 false (m * up e * 1 + 2 ^ 52 * down e) (down e * 1)
@@ -92,10 +86,7 @@ bounced x = sub binary64 (add binary64 x limit) limit
 
 -- one more than the whole part only where the fraction is a half at least
 half_up_lem : (w r c : ℕ) (o : Ordering) → Cmp o (r * 2) c → nearest w o ≡ suc w → c ≤ r * 2
-half_up_lem w r c Ordering.lt h e = absurd (never w e)
-  where
-    never : (w : ℕ) → w ≡ suc w → ⊥
-    never w e = omega arith
+half_up_lem w r c Ordering.lt h e = absurd (omega (arith, e))
 half_up_lem w r c Ordering.eq h e = le_of_eq (sym h)
 half_up_lem w r c Ordering.gt h e = le_of_lt h
 
@@ -109,26 +100,8 @@ rounded_whole m e h =
     let B = closest A c in
     let q : A / c ≡ a / c + 2 ^ 52 = add-mul-div_right a (2 ^ 52) C in
     let b = closest_bounds A c in
-    let v : HasValue (add binary64 (fin false m e) limit) false B 1 = subst (λ (z : Float). HasValue z false B 1) (sym (plus m e)) (round_at_one A c C (low_end a (2 ^ 52 * c)) (high_end a c h)) in
-    (B - 2 ^ 52, less (add binary64 (fin false m e) limit) B v (enough (A / c) (a / c) B q b.0) ∙ whole_is binary64 (B - 2 ^ 52), at_least (A / c) (a / c) B q b.0, at_most (A / c) (a / c) B q b.1, λ k. subst (λ (r : ℕ). c ≤ r * 2) (add-mul-mod_self_right a (2 ^ 52) c) (half_up_lem (A / c) (A % c) c (compare (A % c * 2) c) (cmp (A % c * 2) c) (up_one (A / c) (a / c) B q k)))
-  where
-    low_end : (a p : ℕ) → p ≤ a + p
-    low_end a p = omega arith
-
-    high_end : (a c : ℕ) → a < 2 ^ 52 * c → a + 2 ^ 52 * c < 2 ^ 53 * c
-    high_end a c h = omega arith
-
-    enough : (x q B : ℕ) → x ≡ q + 2 ^ 52 → x ≤ B → 2 ^ 52 ≤ B
-    enough x q B e h = omega arith
-
-    up_one : (x q B : ℕ) → x ≡ q + 2 ^ 52 → B - 2 ^ 52 ≡ suc q → B ≡ suc x
-    up_one x q B e h = omega arith
-
-    at_least : (x q B : ℕ) → x ≡ q + 2 ^ 52 → x ≤ B → q ≤ B - 2 ^ 52
-    at_least x q B e h = omega arith
-
-    at_most : (x q B : ℕ) → x ≡ q + 2 ^ 52 → B ≤ suc x → B - 2 ^ 52 ≤ suc q
-    at_most x q B e h = omega arith
+    let v : HasValue (add binary64 (fin false m e) limit) false B 1 = subst (λ (z : Float). HasValue z false B 1) (sym (plus m e)) (round_at_one A c C (omega arith) (omega (arith, h))) in
+    (B - 2 ^ 52, less (add binary64 (fin false m e) limit) B v (omega (arith, q, b.0)) ∙ whole_is binary64 (B - 2 ^ 52), omega (arith, q, b.0), omega (arith, q, b.1), λ k. subst (λ (r : ℕ). c ≤ r * 2) (add-mul-mod_self_right a (2 ^ 52) c) (half_up_lem (A / c) (A % c) c (compare (A % c * 2) c) (cmp (A % c * 2) c) (omega (arith, q, k))))
 
 -- ---- that whole number, and what x is over or under it: with q and r / c the whole part and the fraction of x, it
 -- is q and x is r / c over it, or it is q + 1, r / c is a half at least, and x is 1 - r / c under it

@@ -39,10 +39,7 @@ halves p e h =
     bit : (o : ℕ) → o < 2 → 2 ^ o ≡ 1 + o
     bit zero h = refl
     bit (suc zero) h = refl
-    bit (suc (suc o)) h = absurd (big o h)
-      where
-        big : (o : ℕ) → suc (suc o) < 2 → ⊥
-        big o h = omega arith
+    bit (suc (suc o)) h = absurd (omega (arith, h))
 
 -- ---- what `compare` says
 abbrev pub Cmp : Ordering → ℕ → ℕ → Type 0

@@ -1,5 +1,6 @@
--- a % b by |a| and |b|: what their bit patterns are where there is something to divide (`sizes`), and what a's sign does to
--- the remainder (`sign_plus`, `sign_minus`); where there is no number (`not_finite`, `no_divisor`). Assumes nothing.
+-- a % b by |a| and |b|: what their bit patterns are where there is something to divide (`sizes`), and what a's sign
+-- does to the remainder (`sign_plus`, `sign_minus`); where there is no number (`not_finite`, `no_divisor`). Assumes
+-- nothing.
 use Rattle.std.proofs.Common.{◌≡◌, ℕ, zero, suc, ◌+◌, ◌*◌, ◌/◌, ◌%◌, ◌^◌, ◌<◌, ◌≤◌, Bool, true, false, cond, not, T, eqb, ℤ, sym, refl, ap, ◌∙◌, subst, true≢false, mul-pos, zero-lt-suc, zero-mul, mul-one, arith, pow_pos, T_not}
 use mathlib.Core.Bool.{false≢true}
 use native.Mathlib.Nat.{le_of_mul-le-mul_right}
@@ -81,7 +82,7 @@ pub record Sizes (x y : Float) : Type 0 where
   pub y_is : of_bits binary64 (to_bits binary64 y) ≡ y
   pub x_number : T (not (is_nan x))
 
-plus_fits : (s : Bool) (m : ℕ) (e : ℤ) → T (fits binary64 (fin s m e)) → T (fits binary64 (fin false m e))
+pub plus_fits : (s : Bool) (m : ℕ) (e : ℤ) → T (fits binary64 (fin s m e)) → T (fits binary64 (fin false m e))
 unfolding neg
 plus_fits false m e t = t
 plus_fits true m e t = neg-fits binary64 (fin true m e) t

@@ -37,11 +37,8 @@ under p n N h = le_of_suc-le-suc (lt_of_not-le (λ (g : suc n ≤ p). lt_irrefl 
     over g =
         subst T (whole_le binary64 (suc n) n N (le_of_lt N))
         (le_through (of (suc n)) (round binary64 false p 1) (of n)
-        (subst (λ (z : Float). T (le z (round binary64 false p 1))) (whole_is binary64 (suc n)) (round_mono binary64 (suc n) 1 p 1 (lit< tt) (lit< tt) (ones (suc n) p g)))
+        (subst (λ (z : Float). T (le z (round binary64 false p 1))) (whole_is binary64 (suc n)) (round_mono binary64 (suc n) 1 p 1 (lit< tt) (lit< tt) (omega (arith, g))))
         h)
-      where
-        ones : (a b : ℕ) → a ≤ b → a * 1 ≤ b * 1
-        ones a b h = omega arith
 
 minus_under : T (le (fin true 0 (pos 0)) (of 0))
 unfolding le of_int
@@ -72,12 +69,9 @@ upto_of true p n N h k =
       count = p;
       value = round_whole binary64 true p (le_trans z zero-le);
       most = le_trans z zero-le;
-      clear = λ e. none p z;
+      clear = λ e. omega (arith, z);
       held = round-fits binary64 true p 1;
     }
-  where
-    none : (p : ℕ) → p ≤ 0 → p ≡ 0
-    none p h = omega arith
 
 wholly_upto : (pick : Bool → ℕ → ℕ → ℕ) (x : Float) (n : ℕ) → n < 2 ^ 53 → T (finite x) → T (le nought (wholly pick x)) → T (le (wholly pick x) (of n)) → Upto (wholly pick x) n
 unfolding wholly
@@ -103,11 +97,8 @@ minus_cast (fin false m e) w a c v = absurd (true≢false (sym v.0))
 pub upto_back : (x : Float) (n : ℕ) → n < 2 ^ 53 → (u : Upto x n) → to_unsigned 64 x ≡ u.count
 upto_back x n N u = go u.sign u.value u.clear
   where
-    wide : (k n : ℕ) → k ≤ n → n < 2 ^ 53 → k < 2 ^ 64 * 1
-    wide k n h l = omega arith
-
     go : (s : Bool) → HasValue x s u.count 1 → (s ≡ true → u.count ≡ 0) → to_unsigned 64 x ≡ u.count
-    go false v c = unsigned_value 64 x u.count 1 (lit< tt) v (wide u.count n u.most N) ∙ div-one u.count
+    go false v c = unsigned_value 64 x u.count 1 (lit< tt) v (omega (arith, u.most, N)) ∙ div-one u.count
     go true v c = minus_cast x 64 u.count 1 v ∙ sym (c refl)
 
 -- ---- the ends in order, and the last in range
@@ -123,7 +114,7 @@ above_nought (fin true m e) h = h
 above_nought (fin false m e) h = over_zero (fin false m e) (m * up e) (down e) (mul-pos (ltb→lt 0 m h) (up_pos e)) (refl, refl)
 
 -- a difference of two numbers, the first no +∞ and the second no -∞, is a number
-no_top : (y : Float) (n : ℕ) → HasValue y false n 1 → T (le (inf false) y) → ⊥
+pub no_top : (y : Float) (n : ℕ) → HasValue y false n 1 → T (le (inf false) y) → ⊥
 unfolding le
 no_top nan n v h = v
 no_top (inf s) n v h = v
@@ -133,7 +124,7 @@ cond_number : (b : Bool) (x y : Float) → T (not (is_nan x)) → T (not (is_nan
 cond_number true x y h k = h
 cond_number false x y h k = k
 
-round_number : (s : Bool) (a c : ℕ) → T (not (is_nan (round binary64 s a c)))
+pub round_number : (s : Bool) (a c : ℕ) → T (not (is_nan (round binary64 s a c)))
 round_number s a c = signed_number (round binary64 s a c) s (round_signed binary64 s a c)
 
 sum_number : (s : Bool) (a : ℕ) (t : Bool) (b c : ℕ) → T (not (is_nan (sum binary64 s a t b c)))
@@ -212,10 +203,7 @@ gap lo hi n N u w o l = go u.sign w.sign u.value w.value u.clear w.clear
   where
     go : (s t : Bool) → HasValue lo s u.count 1 → HasValue hi t w.count 1 → (s ≡ true → u.count ≡ 0) → (t ≡ true → w.count ≡ 0) → sub binary64 hi lo ≡ of (w.count - u.count)
     go false false v x c d = sub_over binary64 hi lo false false w.count u.count 1 (lit< tt) x v ∙ sum_less binary64 w.count u.count 1 l ∙ whole_is binary64 (w.count - u.count)
-    go true false v x c d = sub_over binary64 hi lo false true w.count u.count 1 (lit< tt) x v ∙ sum_plus binary64 false w.count u.count 1 ∙ whole_is binary64 (w.count + u.count) ∙ ap of (same w.count u.count (c refl))
-      where
-        same : (a b : ℕ) → b ≡ 0 → a + b ≡ a - b
-        same a b e = omega arith
+    go true false v x c d = sub_over binary64 hi lo false true w.count u.count 1 (lit< tt) x v ∙ sum_plus binary64 false w.count u.count 1 ∙ whole_is binary64 (w.count + u.count) ∙ ap of (omega (arith, c refl))
     go s true v x c d = absurd (not_under_zero lo hi s u.count w.count v c x o)
 
 pub interval_is : (x y : Float) (n m : ℕ) → T (finite x) → T (finite y) → n < 2 ^ 53 → 0 < m → m ≤ 2 ^ 53 → lt (ceil_of x) plus_zero ≡ false → lt (of n) (floor_of y) ≡ false → lt (floor_of y ⊖ ceil_of x) (of m) ≡ false → Interval (ceil_of x) (floor_of y) n m
@@ -233,16 +221,10 @@ interval_is x y n m f g N M L a b c =
     let j = upto_back hi n N w in
     let o : u.count ≤ w.count = le_trans (le_of_eq (sym i)) (le_trans (unsigned_mono 64 lo hi l) (le_of_eq j)) in
     let k : T (leb m (w.count - u.count)) =
-    subst T (whole_le binary64 m (w.count - u.count) L (less w.count u.count n w.most N)) (subst (λ (z : Float). T (le (of m) z)) (gap lo hi n N u w t.order o) t.apart) in
+    subst T (whole_le binary64 m (w.count - u.count) L (omega (arith, w.most, N))) (subst (λ (z : Float). T (le (of m) z)) (gap lo hi n N u w t.order o) t.apart) in
     record {
       first = u;
       last = w;
-      long = far (to_unsigned 64 lo) (to_unsigned 64 hi) u.count w.count m i j o (leb→le m (w.count - u.count) k);
+      long = omega (arith, i, j, o, leb→le m (w.count - u.count) k);
       inside = le_trans (le_of_eq j) w.most;
     }
-  where
-    less : (a b n : ℕ) → a ≤ n → n < 2 ^ 53 → a - b ≤ 2 ^ 53
-    less a b n h l = omega arith
-
-    far : (p q a b m : ℕ) → p ≡ a → q ≡ b → a ≤ b → m ≤ b - a → p + m ≤ q
-    far p q a b m e g o h = omega arith

@@ -1,12 +1,13 @@
 -- What `sqrt_of` means, in either format (`sqrt_nearest`): at a value above zero it is a value of the format, and no
 -- other is as near to the root (`RootRounded` of specs/Nearest.antt). Assumes nothing.
-use Rattle.std.proofs.Common.{◌≡◌, ℕ, zero, suc, ◌+◌, ◌-◌, ◌*◌, ◌/◌, ◌%◌, ◌^◌, ◌<◌, ◌≤◌, Bool, true, false, T, ltb, ◌⊎◌, sym, refl, ap, ◌∙◌, subst, inl, inr, le_trans, le_of_eq, le_refl, lt_of_lt_of_le, le_of_suc-le-suc, lt_of_le_of_lt, le_of_lt, lt_irrefl, mul-le-mul_right, zero-lt-suc, mul_assoc, mul_comm, add-mul, mul-le-mul, le_antisymm, lt_of_mul-lt-mul_right, eq-or-lt_of_le, mul-lt-mul_of_pos_right, mul-pos, one-mul, pow-suc, lt_of_not-le, zero-mul, mul_right_comm, arith, lit≤, ltb→lt, pow_pos, pow_mono, pow-add, shl_lt}
+use Rattle.std.proofs.Common.{◌≡◌, ℕ, zero, suc, ◌+◌, ◌-◌, ◌*◌, ◌/◌, ◌%◌, ◌^◌, ◌<◌, ◌≤◌, Bool, true, false, T, ◌⊎◌, sym, refl, ap, ◌∙◌, subst, inl, inr, le_trans, le_of_eq, le_refl, lt_of_lt_of_le, le_of_suc-le-suc, lt_of_le_of_lt, le_of_lt, lt_irrefl, mul-le-mul_right, zero-lt-suc, mul_assoc, mul_comm, add-mul, mul-le-mul, le_antisymm, lt_of_mul-lt-mul_right, eq-or-lt_of_le, mul-lt-mul_of_pos_right, mul-pos, one-mul, pow-suc, lt_of_not-le, mul_right_comm, arith, lit≤, ltb→lt, pow_pos, pow_mono, pow-add, shl_lt}
 use native.Mathlib.Nat.{mul-mul-mul_comm, eq_of_mul-eq-mul_right}
 use native.Mathlib.Decide.{dec_le}
 use lib.Pow.{pow-lt}
-use lib.Ieee.{Float, nan, inf, fin, Format, binary32, binary64, prec, emax, low, up, down, size, units, odd, lt, fits}
+use lib.Ieee.{Float, nan, inf, fin, Format, binary32, binary64, prec, emax, low, up, down, size, units, lt, fits}
 use lib.Ieee.Digits.{size-lt, size-le, size_reaches}
-use lib.Ieee.Fits.{two, down_pos, odd-fits, cond-fits, inf-fits}
+use lib.Ieee.Fits.{two, down_pos}
+use lib.Ieee.Positive.{first_pos}
 use lib.Ieee.Exact.{HasValue, units_val}
 use lib.Ieee.Scale.{finite}
 use Rattle.float.specs.Root.{isqrt, root_of, sqrt_of}
@@ -17,6 +18,8 @@ use Rattle.float.proofs.Compared.{nought}
 use Rattle.float.proofs.Squares.{NearRoot, square_lt_back, near_under}
 use Rattle.float.proofs.Roots.{IsRoot, isqrt_is, root_at}
 use Rattle.float.proofs.Value.{sqrt_of_value}
+use Rattle.float.proofs.Narrowing.{units_fits}
+use Rattle.std.proofs.lemmas.Nat.{mul-lt}
 
 -- ---- a value of the format is a number of its digits, and zeros
 
@@ -66,10 +69,7 @@ full p m h k =
     }
   where
     some : (d : ℕ) → m < 2 ^ d → 0 < d
-    some zero l = absurd (no m h l)
-      where
-        no : (m : ℕ) → 0 < m → m < 1 → ⊥
-        no m h l = omega arith
+    some zero l = absurd (omega (arith, h, l))
     some (suc d) l = zero-lt-suc d
 
 -- ---- every number above 0 has a whole number nearest to its root
@@ -86,16 +86,10 @@ near_exists : (n : ℕ) → 0 < n → (c : ℕ) × NearRoot n c
 near_exists n h = near_from n (isqrt n) h (isqrt_is n)
 
 near_at_least : (n b c : ℕ) → b * b ≤ n → NearRoot n c → b ≤ c
-near_at_least n b c h k = le_of_suc-le-suc (subst (λ (x : ℕ). b < x) (plus c) (square_lt_back b (c + 1) (omega (arith, k.below))))
-  where
-    plus : (c : ℕ) → c + 1 ≡ suc c
-    plus c = omega arith
+near_at_least n b c h k = le_of_suc-le-suc (subst (λ (x : ℕ). b < x) (omega arith) (square_lt_back b (c + 1) (omega (arith, k.below))))
 
 near_at_most : (n b c : ℕ) → n < b * b → NearRoot n c → c ≤ b
-near_at_most n b c h k = le_of_suc-le-suc (subst (λ (x : ℕ). c < x) (plus b) (near_under n (b + 1) c (omega arith) (omega arith) k.above))
-  where
-    plus : (c : ℕ) → c + 1 ≡ suc c
-    plus c = omega arith
+near_at_most n b c h k = le_of_suc-le-suc (subst (λ (x : ℕ). c < x) (omega arith) (near_under n (b + 1) c (omega arith) (omega arith) k.above))
 
 -- ---- a value of the format that is no less than 2 ^ (p - 1) times 2 ^ k is a multiple of 2 ^ k
 
@@ -113,10 +107,7 @@ multiple p k a h d l = go (dec_le k d.j)
 -- ---- nearest
 
 square_lt : (a b : ℕ) → a < b → a * a < b * b
-square_lt a b h = lt_of_le_of_lt (mul-le-mul (le_refl a) (le_of_lt h)) (mul-lt-mul_of_pos_right h (lt_of_le_of_lt' a b h))
-  where
-    lt_of_le_of_lt' : (a b : ℕ) → a < b → 0 < b
-    lt_of_le_of_lt' a b h = omega arith
+square_lt a b h = mul-lt a a b b h h
 
 module _ (p k c n : ℕ) (h : 0 < p) (lo : 2 ^ (p - 1) * 2 ^ (p - 1) ≤ n) (near : NearRoot n c) where
   above_half : (b : ℕ) → Digits p b → c * 2 ^ k < b → 4 * (n * (2 ^ k * 2 ^ k)) < (c * 2 ^ k + b) * (c * 2 ^ k + b)
@@ -125,13 +116,10 @@ module _ (p k c n : ℕ) (h : 0 < p) (lo : 2 ^ (p - 1) * 2 ^ (p - 1) ≤ n) (nea
       let at : 2 ^ (p - 1) * u ≤ b = le_trans (mul-le-mul_right u (near_at_least n (2 ^ (p - 1)) c lo near)) (le_of_lt l) in
       let g = multiple p k b h d at in
       let more : c < g.0 = lt_of_mul-lt-mul_right u (subst (λ (x : ℕ). c * u < x) g.1 l) in
-      let sum : (2 * c + 1) * u ≤ c * u + b = le_trans (mul-le-mul_right u (one_up c g.0 more)) (le_of_eq (add-mul c g.0 u ∙ ap (λ (x : ℕ). c * u + x) (sym g.1))) in
+      let sum : (2 * c + 1) * u ≤ c * u + b = le_trans (mul-le-mul_right u (omega (arith, more))) (le_of_eq (add-mul c g.0 u ∙ ap (λ (x : ℕ). c * u + x) (sym g.1))) in
       let sq : 4 * n < (2 * c + 1) * (2 * c + 1) = omega (arith, near.below) in
       lt_of_lt_of_le (lt_of_le_of_lt (le_of_eq (sym (mul_assoc 4 n (u * u)))) (mul-lt-mul_of_pos_right sq (mul-pos (pow_pos k) (pow_pos k))))
       (le_trans (le_of_eq (mul-mul-mul_comm (2 * c + 1) (2 * c + 1) u u)) (mul-le-mul sum sum))
-    where
-      one_up : (c g : ℕ) → c < g → 2 * c + 1 ≤ c + g
-      one_up c g l = omega arith
 
   below_half : (b : ℕ) → Digits p b → b < c * 2 ^ k → (c * 2 ^ k + b) * (c * 2 ^ k + b) < 4 * (n * (2 ^ k * 2 ^ k))
   below_half b d l = go (eq-or-lt_of_le (near_at_least n (2 ^ (p - 1)) c lo near))
@@ -147,47 +135,29 @@ module _ (p k c n : ℕ) (h : 0 < p) (lo : 2 ^ (p - 1) * 2 ^ (p - 1) ≤ n) (nea
       next m (yes a) =
           let g = multiple p k b h d a in
           let less : g.0 < c = lt_of_mul-lt-mul_right (2 ^ k) (subst (λ (x : ℕ). x < c * 2 ^ k) g.1 l) in
-          le_trans (le_of_eq g.1) (mul-le-mul_right (2 ^ k) (pred_le g.0 c less))
-        where
-          pred_le : (g c : ℕ) → g < c → g ≤ c - 1
-          pred_le g c l = omega arith
-      next m (no a) = le_trans (le_of_lt (lt_of_not-le a)) (mul-le-mul_right (2 ^ k) (pred_le (2 ^ (p - 1)) c m))
-        where
-          pred_le : (g c : ℕ) → g < c → g ≤ c - 1
-          pred_le g c l = omega arith
+          le_trans (le_of_eq g.1) (mul-le-mul_right (2 ^ k) (omega (arith, less)))
+      next m (no a) = le_trans (le_of_lt (lt_of_not-le a)) (mul-le-mul_right (2 ^ k) (omega (arith, m)))
 
       go : (2 ^ (p - 1) ≡ c) ⊎ (2 ^ (p - 1) < c) → (c * 2 ^ k + b) * (c * 2 ^ k + b) < 4 * (n * (2 ^ k * 2 ^ k))
       go (inl e) =
           let u = 2 ^ k in
           let cc : c * c ≤ n = subst (λ (x : ℕ). x * x ≤ n) e lo in
-          let sum : c * u + b < 2 * c * u = lt_of_lt_of_le (grow (c * u) b l) (le_of_eq (sym (mul_assoc 2 c u))) in
+          let sum : c * u + b < 2 * c * u = lt_of_lt_of_le (omega (arith, l)) (le_of_eq (sym (mul_assoc 2 c u))) in
           let sq : 2 * c * (2 * c) ≤ 4 * n = omega (arith, cc) in
           lt_of_lt_of_le (square_lt (c * u + b) (2 * c * u) sum)
           (le_trans (le_of_eq (sym (mul-mul-mul_comm (2 * c) (2 * c) u u))) (le_trans (mul-le-mul_right (u * u) sq) (le_of_eq four)))
-        where
-          grow : (x b : ℕ) → b < x → x + b < 2 * x
-          grow x b l = omega arith
       go (inr m) =
           let u = 2 ^ k in
-          let sum : c * u + b ≤ (2 * c - 1) * u = le_trans (add_up (c * u) b ((c - 1) * u) (next m (dec_le (2 ^ (p - 1) * u) b))) (le_of_eq (sym (add-mul c (c - 1) u) ∙ ap (λ (x : ℕ). x * u) (twice c (2 ^ (p - 1)) m))) in
+          let sum : c * u + b ≤ (2 * c - 1) * u = le_trans (omega (arith, next m (dec_le (2 ^ (p - 1) * u) b))) (le_of_eq (sym (add-mul c (c - 1) u) ∙ ap (λ (x : ℕ). x * u) (omega (arith, m)))) in
           let sq : (2 * c - 1) * (2 * c - 1) < 4 * n = odd_square c (2 ^ (p - 1)) m near.above in
           lt_of_le_of_lt (mul-le-mul sum sum)
           (lt_of_le_of_lt (le_of_eq (sym (mul-mul-mul_comm (2 * c - 1) (2 * c - 1) u u))) (lt_of_lt_of_le (mul-lt-mul_of_pos_right sq u_pos) (le_of_eq four)))
         where
-          add_up : (x b y : ℕ) → b ≤ y → x + b ≤ x + y
-          add_up x b y l = omega arith
-
-          twice : (c a : ℕ) → a < c → c + (c - 1) ≡ 2 * c - 1
-          twice c a l = omega arith
-
-          odd_at : (d : ℕ) → (d + 1) * (d + 1) < n + (d + 1) → (2 * d + 1) * (2 * d + 1) < 4 * n
-          odd_at d s = omega arith
-
           odd_square : (c a : ℕ) → a < c → c * c < n + c → (2 * c - 1) * (2 * c - 1) < 4 * n
           odd_square c a l s =
               let e : c ≡ c - 1 + 1 = omega arith in
               let g : 2 * (c - 1) + 1 ≡ 2 * c - 1 = omega arith in
-              subst (λ (x : ℕ). x * x < 4 * n) g (odd_at (c - 1) (subst (λ (x : ℕ). x * x < n + x) e s))
+              subst (λ (x : ℕ). x * x < 4 * n) g (omega (arith, subst (λ (x : ℕ). x * x < n + x) e s))
 
 -- ---- the theorem
 
@@ -200,13 +170,6 @@ pub wide : (f : Format) → 2 ≤ suc (emax f)
 wide binary32 = lit≤ tt
 wide binary64 = lit≤ tt
 
-units_fit : (f : Format) (c k : ℕ) → c ≤ 2 ^ prec f → c * 2 ^ k < 2 ^ (low f + suc (emax f)) → T (fits f (units f false c k))
-unfolding units
-units_fit f c k h l =
-    cond-fits f (ltb (c * 2 ^ k) (2 ^ (low f + suc (emax f)))) (odd (suc (prec f)) false c k (low f)) (inf false)
-    (odd-fits f (suc (prec f)) false c k (lt_of_le_of_lt h (omega (arith, pow-suc 2 (prec f), pow_pos (prec f)))) h l)
-    (inf-fits f false)
-
 -- of a number of units
 pub root_of_units : (f : Format) (x : Float) (a : ℕ) → T (fits f x) → 0 < a → HasValue x false a (2 ^ low f) → RootRounded f a (sqrt_of f x)
 root_of_units f x a F A v =
@@ -214,13 +177,13 @@ root_of_units f x a F A v =
     let l = low f in
     let p-pos : 0 < p = lt_of_lt_of_le (lit≤ tt) (two f) in
     let d = digits f x false a F v in
-    let m-pos : 0 < d.m = some d.m (2 ^ d.j) (subst (λ (y : ℕ). 0 < y) d.is A) in
+    let m-pos : 0 < d.m = first_pos d.m (2 ^ d.j) (subst (λ (y : ℕ). 0 < y) d.is A) in
     let w = full p d.m m-pos d.few in
     let M = d.m * 2 ^ w.s in
     let E = d.j + l - w.s in
     let rm : 2 * (p - 1) ≤ l = room f in
-    let E-ge : p - 1 ≤ E = enough p l d.j w.s p-pos rm w.short in
-    let sum : w.s + E ≡ d.j + l = whole p l d.j w.s rm w.short (two f) in
+    let E-ge : p - 1 ≤ E = omega (arith, p-pos, rm, w.short) in
+    let sum : w.s + E ≡ d.j + l = omega (arith, rm, w.short, two f) in
     let o = (E - (p - 1)) % 2 in
     let k = (E - (p - 1)) / 2 in
     let P = M * ((1 + o) * 2 ^ (p - 1)) in
@@ -231,9 +194,9 @@ root_of_units f x a F A v =
     ∙ sym (mul_assoc d.m (2 ^ w.s) (2 ^ E))
     ∙ ap (λ (y : ℕ). M * y) (halves (p - 1) E E-ge)
     ∙ sym (mul_assoc M ((1 + o) * 2 ^ (p - 1)) (2 ^ k * 2 ^ k)) in
-    let lo : 2 ^ (p - 1) * 2 ^ (p - 1) ≤ P = mul-le-mul w.least (le_trans (le_of_eq (sym (one-mul (2 ^ (p - 1))))) (mul-le-mul_right (2 ^ (p - 1)) (at_least o))) in
+    let lo : 2 ^ (p - 1) * 2 ^ (p - 1) ≤ P = mul-le-mul w.least (le_trans (le_of_eq (sym (one-mul (2 ^ (p - 1))))) (mul-le-mul_right (2 ^ (p - 1)) (omega arith))) in
     let hi : P < 2 ^ p * 2 ^ p =
-    lt_of_le_of_lt (mul-le-mul (le_refl M) (le_trans (mul-le-mul_right (2 ^ (p - 1)) (at_most o (omega arith))) (le_of_eq (double p p-pos)))) (mul-lt-mul_of_pos_right w.most (pow_pos p)) in
+    lt_of_le_of_lt (mul-le-mul (le_refl M) (le_trans (mul-le-mul_right (2 ^ (p - 1)) (omega arith)) (le_of_eq (double p p-pos)))) (mul-lt-mul_of_pos_right w.most (pow_pos p)) in
     let ex = near_exists P (lt_of_lt_of_le (mul-pos (pow_pos (p - 1)) (pow_pos (p - 1))) lo) in
     let c = ex.0 in
     let is : sqrt_of f x ≡ units f false c k = sqrt_of_value f x a A v ∙ ap (root_of f) n-is ∙ root_at f P k c lo hi ex.1 in
@@ -248,7 +211,7 @@ root_of_units f x a F A v =
     lt_of_le_of_lt (le_trans (mul-le-mul_right (2 ^ k) c-le) (le_of_eq (sym (pow-add 2 p k)))) (pow-lt (below p k l (suc (emax f)) (wide f) exps)) in
     record {
       r = c * 2 ^ k;
-      held = subst (λ (y : Float). T (fits f y)) (sym is) (units_fit f c k c-le in-range);
+      held = subst (λ (y : Float). T (fits f y)) (sym is) (units_fits f false c k c-le);
       value = subst (λ (y : Float). HasValue y false (c * 2 ^ k) (2 ^ l)) (sym is) (units_val f false c k in-range);
       nearest = subst (λ (y : ℕ). Nearest f y (c * 2 ^ k)) (sym n-is)
           (record {
@@ -257,27 +220,8 @@ root_of_units f x a F A v =
           });
     }
   where
-    some : (m u : ℕ) → 0 < m * u → 0 < m
-    some zero u h = absurd (lt_irrefl 0 (subst (λ (y : ℕ). 0 < y) (zero-mul u) h))
-    some (suc m) u h = zero-lt-suc m
-
-    enough : (p l j s : ℕ) → 0 < p → 2 * (p - 1) ≤ l → s < p → p - 1 ≤ j + l - s
-    enough p l j s a b c = omega arith
-
-    whole : (p l j s : ℕ) → 2 * (p - 1) ≤ l → s < p → 2 ≤ p → s + (j + l - s) ≡ j + l
-    whole p l j s a b c = omega arith
-
-    at_least : (o : ℕ) → 1 ≤ 1 + o
-    at_least o = omega arith
-
-    at_most : (o : ℕ) → o < 2 → 1 + o ≤ 2
-    at_most o h = omega arith
-
     double : (p : ℕ) → 0 < p → 2 * 2 ^ (p - 1) ≡ 2 ^ p
-    double p h = mul_comm 2 (2 ^ (p - 1)) ∙ sym (pow-suc 2 (p - 1)) ∙ ap (λ (i : ℕ). 2 ^ i) (back p h)
-      where
-        back : (p : ℕ) → 0 < p → suc (p - 1) ≡ p
-        back p h = omega arith
+    double p h = mul_comm 2 (2 ^ (p - 1)) ∙ sym (pow-suc 2 (p - 1)) ∙ ap (λ (i : ℕ). 2 ^ i) (omega (arith, h))
 
     below : (p k l e : ℕ) → 2 ≤ e → p - 1 + (p - 1) + (k + k) < e + l + l → p + k < l + e
     below p k l e h g = omega arith
@@ -299,10 +243,7 @@ unfolding lt in_units
 sqrt_nearest f nan F h l = absurd h
 sqrt_nearest f (inf s) F h l = absurd h
 sqrt_nearest f (fin true m e) F h l = absurd l
-sqrt_nearest f (fin false zero e) F h l = absurd (none (up e) (down e) (ltb→lt (0 * 1 * down e) (0 * up e * 1) l))
-  where
-    none : (u d : ℕ) → 0 * 1 * d < 0 * u * 1 → ⊥
-    none u d h = omega arith
+sqrt_nearest f (fin false zero e) F h l = absurd (omega (arith, ltb→lt (0 * 1 * down e) (0 * up e * 1) l))
 sqrt_nearest f (fin false (suc m) e) F h l =
     let u = in_units f (fin false (suc m) e) F tt in
     (u.count, u.value, root_of_units f (fin false (suc m) e) u.count F (mul-pos (zero-lt-suc m) (pow_pos (exponent f (suc m) e (fits_parts f false (suc m) e F).1).0)) u.value)

@@ -1,8 +1,7 @@
--- a % b by whole numbers of smallest values (`rem_units`), of bit patterns with the sign clear; the sign of a goes through
--- (`sign_plus`, `sign_minus`), and what is no number (`not_finite`, `no_divisor`). Assumes nothing.
-use Rattle.std.proofs.Common.{◌≡◌, ℕ, zero, suc, ◌+◌, ◌-◌, ◌*◌, ◌/◌, ◌%◌, ◌^◌, ◌<◌, ◌≤◌, Bool, false, cond, pos, sym, ap, ◌∙◌, subst, lt_of_lt_of_le, lt_irrefl, mod-lt, zero-lt-suc, mul_assoc, mul_comm, mul_right_comm, mul-pos, one-mul, mul-one, zero-mul, mul-le-mul_right, mul-lt-mul_of_pos_right, mul-div_cancel, arith, pow_pos, pow_mono, pow-add}
-use Rattle.std.proofs.lemmas.Nat.{mul-mod_first}
-use native.Mathlib.Nat.{mul-mod_left}
+-- a % b by whole numbers of smallest values (`rem_units`), of bit patterns with the sign clear. Assumes nothing.
+use Rattle.std.proofs.Common.{◌≡◌, ℕ, zero, suc, ◌+◌, ◌-◌, ◌*◌, ◌/◌, ◌%◌, ◌^◌, ◌<◌, ◌≤◌, Bool, false, cond, pos, sym, ap, ◌∙◌, subst, lt_irrefl, mod-lt, zero-lt-suc, mul_assoc, mul_comm, mul_right_comm, mul-pos, one-mul, mul-one, zero-mul, mul-lt-mul_of_pos_right, mul-div_cancel, arith, pow_pos, pow-add}
+use Rattle.std.proofs.lemmas.Nat.{mul-mod_first, pow_below}
+use native.Mathlib.Nat.{mul-le-mul, mul-le-mul_left, mul-mod_left}
 use native.Mathlib.Decide.{dec_le}
 use borrow.Author.Tests.{lt-ltb, le-ltb}
 use lib.Arith.{mod-mul}
@@ -70,13 +69,7 @@ pub high_units : (b : ℕ) → 2 ^ 52 ≤ b → b < 0x7ff0_0000_0000_0000 → In
 high_units b h k = record { value = sym (counted_high b h); most = omega arith; least = λ z. omega arith; ceil = omega arith }
 
 pub low_power : (e : ℕ) → e < 52 → counted (2 ^ e) ≡ 2 ^ e
-low_power e h = counted_low (2 ^ e) (lt_of_lt_of_le (two_less e) (pow_mono {i = e + 1} {j = 52} (omega arith)))
-  where
-    two_less : (e : ℕ) → 2 ^ e < 2 ^ (e + 1)
-    two_less e = subst (λ (x : ℕ). 2 ^ e < x) (sym (pow-add 2 e 1)) (grows (2 ^ e) (pow_pos e))
-      where
-        grows : (a : ℕ) → 0 < a → a < a * 2 ^ 1
-        grows a h = omega arith
+low_power e h = counted_low (2 ^ e) (pow_below e 52 h)
 
 pub high_power : (e : ℕ) → 52 ≤ e → counted ((e - 51) * 2 ^ 52) ≡ 2 ^ e
 high_power e h =
@@ -97,16 +90,10 @@ order m e n d h l k = go (dec_le d e)
         let Q = 2 ^ j in
         let n52 : 2 ^ 52 ≤ n = l (omega arith) in
         let split : 2 ^ d ≡ 2 * P * Q = ap (λ (i : ℕ). 2 ^ i) q ∙ pow-add 2 (1 + e) j ∙ ap (λ (x : ℕ). x * Q) (pow-add 2 1 e) in
-        let one-le : 2 * P ≤ 2 * P * Q = subst (λ (x : ℕ). x ≤ 2 * P * Q) (mul-one (2 * P)) (mul-le-mul-l (2 * P) 1 Q (pow_pos j)) in
-        let big : 2 ^ 52 * (2 * P) ≤ n * 2 ^ d = subst (λ (x : ℕ). 2 ^ 52 * (2 * P) ≤ n * x) (sym split) (both (2 ^ 52) n (2 * P) (2 * P * Q) n52 one-le) in
+        let one-le : 2 * P ≤ 2 * P * Q = subst (λ (x : ℕ). x ≤ 2 * P * Q) (mul-one (2 * P)) (mul-le-mul_left (2 * P) (pow_pos j)) in
+        let big : 2 ^ 52 * (2 * P) ≤ n * 2 ^ d = subst (λ (x : ℕ). 2 ^ 52 * (2 * P) ≤ n * x) (sym split) (mul-le-mul n52 one-le) in
         let small : m * P < 2 ^ 53 * P = mul-lt-mul_of_pos_right h (pow_pos e) in
         omega (arith, big, small, k)
-      where
-        mul-le-mul-l : (a b c : ℕ) → b ≤ c → a * b ≤ a * c
-        mul-le-mul-l a b c h = subst (λ (x : ℕ). x ≤ a * c) (mul_comm b a) (subst (λ (x : ℕ). b * a ≤ x) (mul_comm c a) (mul-le-mul_right a h))
-
-        both : (a b c d : ℕ) → a ≤ b → c ≤ d → a * c ≤ b * d
-        both a b c d p q = omega (arith, mul-le-mul_right c p, mul-le-mul-l b c d q)
 
     go : Dec (d ≤ e) → d ≤ e
     go (yes q) = q
@@ -126,11 +113,8 @@ units_mod x y m e n d r p q h N s =
     ∙ mod_scale (m * 2 ^ (e - d)) n (2 ^ d) N (pow_pos d)
     ∙ ap (λ (z : ℕ). z * 2 ^ d) (sym s)
   where
-    back : e - d + d ≡ e
-    back = omega arith
-
     split : 2 ^ e ≡ 2 ^ (e - d) * 2 ^ d
-    split = ap (λ (i : ℕ). 2 ^ i) (sym back) ∙ pow-add 2 (e - d) d
+    split = ap (λ (i : ℕ). 2 ^ i) (sym (omega arith)) ∙ pow-add 2 (e - d) d
 
 pub rem_units : (x y m e n d r p : ℕ) → x < 0x7ff0_0000_0000_0000 → y < 0x7ff0_0000_0000_0000 → p < 0x7ff0_0000_0000_0000 → 0 < counted y → counted y ≤ counted x → InUnits x m e → InUnits y n d → r ≡ m * 2 ^ (e - d) % n → counted p ≡ 2 ^ d → mul binary64 (of_int binary64 (pos r)) (of_bits binary64 p) ≡ rem binary64 (of_bits binary64 x) (of_bits binary64 y)
 rem_units x y m e n d r p X Y P B o u v s w =

@@ -2,15 +2,17 @@
 -- round. `lt_le`, `not_lt_le`: between the tests. `le_through`: by way of a third. `minus_le_plus`, `signed_le`: by
 -- sign. `ceil_mono`, `round_mono`: x at most y has ceil and round of x at most those of y. With infinities and minus
 -- signs among the values. Assumes nothing.
-use Rattle.std.proofs.Common.{◌≡◌, ℕ, ◌+◌, ◌*◌, ◌<◌, ◌≤◌, Bool, true, false, not, ◌&&◌, ◌||◌, T, eqb, ltb, ℤ, pos, sym, refl, ap, ◌∙◌, subst, inl, inr, true≢false, le_of_eq, le_of_lt, mul-le-mul_right, eq-zero-or-pos, eq-or-lt_of_le, zero-mul, arith, lit<, eqb→eq, ltb→lt, lt→ltb, nltb→le}
+use Rattle.std.proofs.Common.{◌≡◌, ℕ, ◌+◌, ◌*◌, ◌<◌, ◌≤◌, Bool, true, false, not, ◌&&◌, ◌||◌, T, eqb, ltb, ℤ, pos, sym, ap, ◌∙◌, subst, inl, inr, true≢false, le_of_eq, le_of_lt, mul-le-mul_right, eq-zero-or-pos, eq-or-lt_of_le, zero-mul, arith, lit<, eqb→eq, ltb→lt, lt→ltb}
 use native.Mathlib.Nat.{eq_of_mul-eq-mul_right}
-use lib.Ieee.{Float, nan, inf, fin, binary64, up, down, below, level, round, neg, lt, eq, le, is_nan}
+use mir.Facts.{or_yes}
+use lib.Ieee.{Float, nan, inf, fin, binary64, up, down, below, level, round, neg, le}
 use lib.Ieee.Fits.{down_pos, and_i, and_l, and_r, eq→eqb}
 use lib.Ieee.Order.{round_mono as rounds-up}
-use lib.Ieee.Positive.{through}
+-- std's, by the names that the crates above cite
+pub use Rattle.std.proofs.lemmas.Float.{le_of_lt as lt_le, le_of_not-lt as not_lt_le, le_trans as le_through}
 use Rattle.float.specs.Whole.{ceil_of, round_of}
 use Rattle.float.proofs.Exactly.{neg_round}
-use Rattle.float.proofs.Compared.{nought, or_split, lt_or_eq}
+use Rattle.float.proofs.Compared.{nought, lt_or_eq}
 use Rattle.float.proofs.Picks.{Steps, wholly, ceil_pick, round_pick, ceil_steps, round_steps, ceil_is, round_is}
 use Rattle.float.proofs.Signs.{Signed, round_signed}
 
@@ -33,7 +35,7 @@ most : (s t : Bool) (a b : ℕ) → T (below s a t b || level s a t b) → Most 
 most false false a b h = lt_or_eq a b h
 most false true a b h = let z : a ≡ 0 = eqb→eq a 0 (and_r (eqb a b) (eqb a 0) h) in (z, sym (eqb→eq a b (and_l (eqb a b) (eqb a 0) h)) ∙ z)
 most true false a b h = tt
-most true true a b h = elim (or_split (ltb b a) (eqb a b && true) h) [ inl u ↦ le_of_lt (ltb→lt b a u) | inr u ↦ le_of_eq (sym (eqb→eq a b (and_l (eqb a b) true u))) ]
+most true true a b h = elim (or_yes (ltb b a) (eqb a b && true) h) [ inl u ↦ le_of_lt (ltb→lt b a u) | inr u ↦ le_of_eq (sym (eqb→eq a b (and_l (eqb a b) true u))) ]
 
 at_most : (s t : Bool) (a b : ℕ) → Most s a t b → T (below s a t b || level s a t b)
 at_most false false a b h =
@@ -44,15 +46,9 @@ at_most false false a b h =
 at_most false true a b h = and_i (eqb a b) (eqb a 0) (eq→eqb (h.0 ∙ sym h.1)) (eq→eqb h.0)
 at_most true false a b h =
     elim (eq-zero-or-pos (a + b)) [
-      | inl z ↦ or_r (ltb 0 (a + b)) (eqb a b && eqb a 0) (and_i (eqb a b) (eqb a 0) (eq→eqb (both a b z)) (eq→eqb (left a b z)))
+      | inl z ↦ or_r (ltb 0 (a + b)) (eqb a b && eqb a 0) (and_i (eqb a b) (eqb a 0) (eq→eqb (omega (arith, z))) (eq→eqb (omega (arith, z))))
       | inr l ↦ or_l (ltb 0 (a + b)) (eqb a b && eqb a 0) (lt→ltb 0 (a + b) l)
     ]
-  where
-    both : (a b : ℕ) → a + b ≡ 0 → a ≡ b
-    both a b h = omega arith
-
-    left : (a b : ℕ) → a + b ≡ 0 → a ≡ 0
-    left a b h = omega arith
 at_most true true a b h =
     elim (eq-or-lt_of_le h) [
       | inl e ↦ or_r (ltb b a) (eqb a b && true) (and_i (eqb a b) true (eq→eqb (sym e)) tt)
@@ -92,93 +88,14 @@ neg_le (fin s m e) (inf true) h = absurd h
 neg_le (fin s m e) (inf false) h = tt
 neg_le (fin s m e) (fin t n d) h = at_most (not t) (not s) (n * up d * down e) (m * up e * down d) (turned s t (m * up e * down d) (n * up d * down e) (most s t (m * up e * down d) (n * up d * down e) h))
 
--- ---- between the tests
-pub lt_le : (x y : Float) → T (lt x y) → T (le x y)
-unfolding le
-lt_le x y h = or_l (lt x y) (eq x y) h
-
-not_below : (s t : Bool) (a b : ℕ) → T (not (below s a t b)) → Most t b s a
-not_below false false a b h = nltb→le a b h
-not_below false true a b h = tt
-not_below true false a b h = (right a b (nltb→le 0 (a + b) h), left a b (nltb→le 0 (a + b) h))
-  where
-    right : (a b : ℕ) → a + b ≤ 0 → b ≡ 0
-    right a b h = omega arith
-
-    left : (a b : ℕ) → a + b ≤ 0 → a ≡ 0
-    left a b h = omega arith
-not_below true true a b h = nltb→le b a h
-
--- of two numbers, what is not below is at least
-pub not_lt_le : (x y : Float) → T (not (is_nan x)) → T (not (is_nan y)) → T (not (lt x y)) → T (le y x)
-unfolding lt le is_nan
-not_lt_le nan y p q h = absurd p
-not_lt_le (inf s) nan p q h = absurd q
-not_lt_le (inf true) (inf true) p q h = tt
-not_lt_le (inf true) (inf false) p q h = absurd h
-not_lt_le (inf false) (inf true) p q h = tt
-not_lt_le (inf false) (inf false) p q h = tt
-not_lt_le (inf true) (fin t n d) p q h = absurd h
-not_lt_le (inf false) (fin t n d) p q h = tt
-not_lt_le (fin s m e) nan p q h = absurd q
-not_lt_le (fin s m e) (inf true) p q h = tt
-not_lt_le (fin s m e) (inf false) p q h = absurd h
-not_lt_le (fin s m e) (fin t n d) p q h = at_most t s (n * up d * down e) (m * up e * down d) (not_below s t (m * up e * down d) (n * up d * down e) h)
-
 nil : (x d : ℕ) → 0 < d → x * d ≡ 0 → x ≡ 0
 nil x d D h = eq_of_mul-eq-mul_right d D x 0 (h ∙ sym (zero-mul d))
-
-none : (x d : ℕ) → x ≡ 0 → x * d ≡ 0
-none x d h = ap (λ (z : ℕ). z * d) h ∙ zero-mul d
-
-under_none : (x y : ℕ) → x ≤ y → y ≡ 0 → x ≡ 0
-under_none x y h e = omega arith
-
-over_none : (x y : ℕ) → x ≡ 0 → x ≤ y
-over_none x y e = omega arith
-
--- ± x / p at most ± y / q, and that at most ± z / r
-most_trans : (s t u : Bool) (x p y q z r : ℕ) → 0 < p → 0 < q → 0 < r → Most s (x * q) t (y * p) → Most t (y * r) u (z * q) → Most s (x * r) u (z * p)
-most_trans false false false x p y q z r P Q R h k = through x y z p q r Q h k
-most_trans false false true x p y q z r P Q R h k = (none x r (nil x q Q (under_none (x * q) (y * p) h (none y p (nil y r R k.0)))), none z p (nil z q Q k.1))
-most_trans false true false x p y q z r P Q R h k = over_none (x * r) (z * p) (none x r (nil x q Q h.0))
-most_trans false true true x p y q z r P Q R h k = (none x r (nil x q Q h.0), none z p (nil z q Q (under_none (z * q) (y * r) k (none y r (nil y p P h.1)))))
-most_trans true t false x p y q z r P Q R h k = tt
-most_trans true false true x p y q z r P Q R h k = over_none (z * p) (x * r) (none z p (nil z q Q k.1))
-most_trans true true true x p y q z r P Q R h k = through z y x r q p Q k h
 
 no_nan : (y : Float) → T (le y nan) → ⊥
 unfolding le
 no_nan nan k = k
 no_nan (inf t) k = k
 no_nan (fin t n d) k = k
-
-top_only : (y : Float) → T (le (inf false) y) → y ≡ inf false
-unfolding le
-top_only nan h = absurd h
-top_only (inf true) h = absurd h
-top_only (inf false) h = refl
-top_only (fin t n d) h = absurd h
-
-pub le_through : (x y z : Float) → T (le x y) → T (le y z) → T (le x z)
-unfolding le
-le_through nan y z h k = absurd h
-le_through (inf true) y nan h k = absurd (no_nan y k)
-le_through (inf true) y (inf true) h k = tt
-le_through (inf true) y (inf false) h k = tt
-le_through (inf true) y (fin u o g) h k = tt
-le_through (inf false) y z h k = subst (λ (x : Float). T (le x z)) (top_only y h) k
-le_through (fin s m e) nan z h k = absurd h
-le_through (fin s m e) (inf true) z h k = absurd h
-le_through (fin s m e) (inf false) nan h k = absurd k
-le_through (fin s m e) (inf false) (inf true) h k = absurd k
-le_through (fin s m e) (inf false) (inf false) h k = tt
-le_through (fin s m e) (inf false) (fin u o g) h k = absurd k
-le_through (fin s m e) (fin t n d) nan h k = absurd k
-le_through (fin s m e) (fin t n d) (inf true) h k = absurd k
-le_through (fin s m e) (fin t n d) (inf false) h k = tt
-le_through (fin s m e) (fin t n d) (fin u o g) h k =
-    fin_le s m e u o g (most_trans s t u (m * up e) (down e) (n * up d) (down d) (o * up g) (down g) (down_pos e) (down_pos d) (down_pos g) (le_fin s m e t n d h) (le_fin t n d u o g k))
 
 -- ---- by sign
 pub minus_le_plus : (x y : Float) → Signed true x → Signed false y → T (le x y)
@@ -201,7 +118,7 @@ signed_le nan h = h
 signed_le (inf true) h = absurd (true≢false h)
 signed_le (inf false) h = tt
 signed_le (fin true m e) h = absurd (true≢false h)
-signed_le (fin false m e) h = fin_le false 0 (pos 0) false m e (over_none (0 * 1 * down e) (m * up e * 1) (zero-mul (down e)))
+signed_le (fin false m e) h = fin_le false 0 (pos 0) false m e (omega (arith, zero-mul (down e)))
 
 least : (s : Bool) (y : Float) → Signed s y → T (le (inf true) y)
 unfolding le

@@ -37,11 +37,8 @@ field_val : (f : Format) (s : Bool) (x t : ℕ) → suc x < ones f → HasValue 
 unfolding of_fields
 field_val f s x t h =
     subst (λ (y : Float). HasValue y s ((hid f + t) * 2 ^ x) (2 ^ low f))
-    (sym (cond_no (eqb (suc x) (ones f)) (cond (eqb t 0) (inf s) nan) (odd (prec f) s (hid f + t) x (low f)) (not_T (eqb (suc x) (ones f)) (λ (u : T (eqb (suc x) (ones f))). differ (suc x) (ones f) h (eqb→eq (suc x) (ones f) u)))))
+    (sym (cond_no (eqb (suc x) (ones f)) (cond (eqb t 0) (inf s) nan) (odd (prec f) s (hid f + t) x (low f)) (not_T (eqb (suc x) (ones f)) (λ (u : T (eqb (suc x) (ones f))). omega (arith, h, eqb→eq (suc x) (ones f) u)))))
     (odd_sign (prec f) s (hid f + t) x (low f))
-  where
-    differ : (a b : ℕ) → a < b → a ≡ b → ⊥
-    differ a b h e = omega arith
 
 at_fields : (f : Format) (s : Bool) (p x t a : ℕ) → of_bits f (signed f s + p) ≡ of_fields f s (p / hid f) (p % hid f) → p / hid f ≡ x → p % hid f ≡ t → HasValue (of_fields f s x t) s a (2 ^ low f) → HasValue (of_bits f (signed f s + p)) s a (2 ^ low f)
 at_fields f s p x t a e c d v =
@@ -119,12 +116,9 @@ target s q k h l m =
       | inr u ↦ target_mid s q k l u m
     ]
   where
-    less : (k : ℕ) → k < 253 → k ≤ 252
-    less k h = omega arith
-
     top : (k ≡ 253) ⊎ (k < 253) → of_bits binary32 (signed binary32 s + (k * 8388608 + 0x100_0000)) ≡ units binary32 s 0x100_0000 k
     top (inl e) = subst (λ (z : ℕ). of_bits binary32 (signed binary32 s + (z * 8388608 + 0x100_0000)) ≡ units binary32 s 0x100_0000 z) (sym e) (target_top s)
-    top (inr u) = target_next s k (less k u)
+    top (inr u) = target_next s k (omega (arith, u))
 
 -- ---- `round` of D * 2 ^ K of the smallest `f64`
 pub round_units : (s : Bool) (D K j k : ℕ) → K + 149 + j ≡ 1074 + k → size (D * 2 ^ K * 2 ^ 149 / 2 ^ 1074) - 24 ≡ k → round binary32 s (D * 2 ^ K) (2 ^ 1074) ≡ units binary32 s (closest D (2 ^ j)) k
@@ -139,24 +133,12 @@ round_units s D K j k e z =
 size_normal : (D K k : ℕ) → K ≡ 896 + k → 2 ^ 52 ≤ D → D < 2 ^ 53 → size (D * 2 ^ K * 2 ^ 149 / 2 ^ 1074) - 24 ≡ k
 size_normal D K k e l h =
     let n = D * 2 ^ K * 2 ^ 149 in
-    let is : n ≡ D * 2 ^ (1045 + k) = pow_split D K 149 ∙ ap (λ (y : ℕ). D * 2 ^ y) (expo K k e) in
+    let is : n ≡ D * 2 ^ (1045 + k) = pow_split D K 149 ∙ ap (λ (y : ℕ). D * 2 ^ y) (omega (arith, e)) in
     let lo : 2 ^ (23 + k) * 2 ^ 1074 ≤ n =
-    le_trans (le_of_eq (sym (pow-add 2 (23 + k) 1074) ∙ ap (λ (y : ℕ). 2 ^ y) (expo_l k) ∙ pow-add 2 52 (1045 + k))) (le_trans (mul-le-mul_right (2 ^ (1045 + k)) l) (le_of_eq (sym is))) in
+    le_trans (le_of_eq (sym (pow-add 2 (23 + k) 1074) ∙ ap (λ (y : ℕ). 2 ^ y) (omega arith) ∙ pow-add 2 52 (1045 + k))) (le_trans (mul-le-mul_right (2 ^ (1045 + k)) l) (le_of_eq (sym is))) in
     let hi : n < 2 ^ (24 + k) * 2 ^ 1074 =
-    lt_of_le_of_lt (le_of_eq is) (lt_of_lt_of_le (mul-lt-mul_of_pos_right h (pow_pos (1045 + k))) (le_of_eq (sym (pow-add 2 53 (1045 + k)) ∙ ap (λ (y : ℕ). 2 ^ y) (expo_h k) ∙ pow-add 2 (24 + k) 1074))) in
-    both (size (n / 2 ^ 1074)) k (size_gt (n / 2 ^ 1074) (23 + k) ((le-div_iff_mul-le (pow_pos 1074)).1 lo)) (size-le (n / 2 ^ 1074) (24 + k) ((div-lt_iff_lt-mul (pow_pos 1074)).1 hi))
-  where
-    expo : (K k : ℕ) → K ≡ 896 + k → K + 149 ≡ 1045 + k
-    expo K k e = omega arith
-
-    expo_l : (k : ℕ) → 23 + k + 1074 ≡ 52 + (1045 + k)
-    expo_l k = omega arith
-
-    expo_h : (k : ℕ) → 53 + (1045 + k) ≡ 24 + k + 1074
-    expo_h k = omega arith
-
-    both : (z k : ℕ) → 23 + k < z → z ≤ 24 + k → z - 24 ≡ k
-    both z k a b = omega arith
+    lt_of_le_of_lt (le_of_eq is) (lt_of_lt_of_le (mul-lt-mul_of_pos_right h (pow_pos (1045 + k))) (le_of_eq (sym (pow-add 2 53 (1045 + k)) ∙ ap (λ (y : ℕ). 2 ^ y) (omega arith) ∙ pow-add 2 (24 + k) 1074))) in
+    omega (arith, size_gt (n / 2 ^ 1074) (23 + k) ((le-div_iff_mul-le (pow_pos 1074)).1 lo), size-le (n / 2 ^ 1074) (24 + k) ((div-lt_iff_lt-mul (pow_pos 1074)).1 hi))
 
 size_low : (D K : ℕ) → D < 2 ^ 53 → K ≤ 895 → size (D * 2 ^ K * 2 ^ 149 / 2 ^ 1074) - 24 ≡ 0
 size_low D K h l =
@@ -175,9 +157,6 @@ size_low D K h l =
 abbrev pub rounded : ℕ → ℕ
 rounded y = (y + 0xfff_ffff + y / 0x2000_0000 % 2) / 0x2000_0000
 
-digits_lo : (a : ℕ) → 2 ^ 52 ≤ 0x10_0000_0000_0000 + a % 0x10_0000_0000_0000
-digits_lo a = omega arith
-
 digits_hi : (a : ℕ) → 0x10_0000_0000_0000 + a % 0x10_0000_0000_0000 < 2 ^ 53
 digits_hi a = omega arith
 
@@ -190,7 +169,7 @@ value : (s : Bool) (a K k : ℕ) → a / 0x10_0000_0000_0000 ≡ suc K → suc K
 value s a K k e h f =
     let D = 0x10_0000_0000_0000 + a % 0x10_0000_0000_0000 in
     narrow_value (of_bits binary64 (signed binary64 s + a)) s (D * 2 ^ K) (2 ^ 1074) (pow_pos 1074) (source s a K e h)
-    ∙ round_units s D K 29 k (omega arith) (size_normal D K k f (digits_lo a) (digits_hi a))
+    ∙ round_units s D K 29 k (omega arith) (size_normal D K k f (omega arith) (digits_hi a))
     ∙ ap (λ (q : ℕ). units binary32 s q k) (sym (code_29 D))
 
 pub normal : (a : ℕ) → 0x3810_0000_0000_0000 ≤ a → a < 0x47f0_0000_0000_0000 → Narrowed a (rounded (a - 0x3800_0000_0000_0000))
@@ -200,45 +179,24 @@ normal a l h =
     let K = 896 + k in
     let e : a / 0x10_0000_0000_0000 ≡ suc K = omega arith in
     let k-le : k ≤ 253 = omega arith in
-    let r : k * 8388608 + rounded D ≡ rounded (a - 0x3800_0000_0000_0000) = split a (a % 0x10_0000_0000_0000) k (whole a k e) (short a) in
+    let r : k * 8388608 + rounded D ≡ rounded (a - 0x3800_0000_0000_0000) = split a (a % 0x10_0000_0000_0000) k (omega (arith, e)) (omega arith) in
     record {
-      small = subst (λ (z : ℕ). z ≤ 0x7f80_0000) r (under D k (digits_hi a) k-le);
-      is = λ s. value s a K k e (field k k-le) refl ∙ sym (target s (rounded D) k (most D (digits_hi a)) (least D (digits_lo a)) k-le) ∙ ap (λ (p : ℕ). of_bits binary32 (signed binary32 s + p)) r;
+      small = subst (λ (z : ℕ). z ≤ 0x7f80_0000) r (omega (arith, digits_hi a, k-le));
+      is = λ s. value s a K k e (omega (arith, k-le)) refl ∙ sym (target s (rounded D) k (omega (arith, digits_hi a)) (least D (omega arith)) k-le) ∙ ap (λ (p : ℕ). of_bits binary32 (signed binary32 s + p)) r;
     }
   where
-    field : (k : ℕ) → k ≤ 253 → suc (896 + k) < 2047
-    field k h = omega arith
-
-    most : (D : ℕ) → D < 2 ^ 53 → rounded D ≤ 0x100_0000
-    most D h = omega arith
-
     least : (D : ℕ) → 2 ^ 52 ≤ D → 8388608 ≤ rounded D
     least D h = omega arith
-
-    under : (D k : ℕ) → D < 2 ^ 53 → k ≤ 253 → k * 8388608 + rounded D ≤ 0x7f80_0000
-    under D k h l = omega arith
-
-    whole : (a k : ℕ) → a / 0x10_0000_0000_0000 ≡ suc (896 + k) → a ≡ (897 + k) * 0x10_0000_0000_0000 + a % 0x10_0000_0000_0000
-    whole a k e = omega arith
-
-    short : (a : ℕ) → a % 0x10_0000_0000_0000 < 0x10_0000_0000_0000
-    short a = omega arith
 
     split : (a t k : ℕ) → a ≡ (897 + k) * 0x10_0000_0000_0000 + t → t < 0x10_0000_0000_0000 → k * 8388608 + rounded (0x10_0000_0000_0000 + t) ≡ rounded (a - 0x3800_0000_0000_0000)
     split a t k e h =
         let D = 0x10_0000_0000_0000 + t in
         let y = a - 0x3800_0000_0000_0000 in
         let y-is : y ≡ D + k * 8388608 * 0x2000_0000 = omega arith in
-        let b : y / 0x2000_0000 % 2 ≡ D / 0x2000_0000 % 2 = ap (λ (z : ℕ). z / 0x2000_0000 % 2) y-is ∙ ap (λ (z : ℕ). z % 2) (add-mul-div_right D (k * 8388608) (lit< tt)) ∙ even (D / 0x2000_0000) k in
+        let b : y / 0x2000_0000 % 2 ≡ D / 0x2000_0000 % 2 = ap (λ (z : ℕ). z / 0x2000_0000 % 2) y-is ∙ ap (λ (z : ℕ). z % 2) (add-mul-div_right D (k * 8388608) (lit< tt)) ∙ omega arith in
         add_comm (k * 8388608) (rounded D)
         ∙ sym (add-mul-div_right (D + 0xfff_ffff + D / 0x2000_0000 % 2) (k * 8388608) (lit< tt))
-        ∙ ap (λ (z : ℕ). z / 0x2000_0000) (order D (D / 0x2000_0000 % 2) (k * 8388608 * 0x2000_0000) y (y / 0x2000_0000 % 2) y-is b)
-      where
-        even : (p k : ℕ) → (p + k * 8388608) % 2 ≡ p % 2
-        even p k = omega arith
-
-        order : (D b p y c : ℕ) → y ≡ D + p → c ≡ b → D + 0xfff_ffff + b + p ≡ y + 0xfff_ffff + c
-        order D b p y c e f = omega arith
+        ∙ ap (λ (z : ℕ). z / 0x2000_0000) (omega (arith, y-is, b))
 
 inf_64 : (s : Bool) → narrow_of (of_bits binary64 (signed binary64 s + 0x7ff0_0000_0000_0000)) ≡ inf s
 unfolding of_bits narrow_of
@@ -254,7 +212,7 @@ over a l h = record { small = lit≤ tt; is = λ s. go s (eq-or-lt_of_le h) ∙ 
         let D = 0x10_0000_0000_0000 + a % 0x10_0000_0000_0000 in
         let k = a / 0x10_0000_0000_0000 - 897 in
         value s a (896 + k) k (omega arith) (omega arith) refl
-        ∙ units_over binary32 s (rounded D) k (le_trans (le_of_eq (pow-add 2 23 254)) (mul-le-mul (least D (digits_lo a)) (pow_mono (high a k refl l))))
+        ∙ units_over binary32 s (rounded D) k (le_trans (le_of_eq (pow-add 2 23 254)) (mul-le-mul (least D (omega arith)) (pow_mono (high a k refl l))))
       where
         least : (D : ℕ) → 2 ^ 52 ≤ D → 8388608 ≤ rounded D
         least D h = omega arith
@@ -279,12 +237,9 @@ closest_le D j l h = le_trans (nearest-le (D / 2 ^ j) (compare (D % 2 ^ j * 2) (
 target_sub : (s : Bool) (q : ℕ) → q ≤ 8388608 → of_bits binary32 (signed binary32 s + q) ≡ units binary32 s q 0
 target_sub s q h =
     elim (eq-or-lt_of_le h) [
-      | inl e ↦ ap (λ (z : ℕ). of_bits binary32 (signed binary32 s + z)) (plain q) ∙ target s q 0 (omega arith) (le_of_eq (sym e)) (lit≤ tt)
-      | inr u ↦ ap (λ (z : ℕ). of_bits binary32 (signed binary32 s + z)) (plain q) ∙ target_low s q u
+      | inl e ↦ ap (λ (z : ℕ). of_bits binary32 (signed binary32 s + z)) (omega arith) ∙ target s q 0 (omega arith) (le_of_eq (sym e)) (lit≤ tt)
+      | inr u ↦ ap (λ (z : ℕ). of_bits binary32 (signed binary32 s + z)) (omega arith) ∙ target_low s q u
     ]
-  where
-    plain : (q : ℕ) → q ≡ 0 * 8388608 + q
-    plain q = omega arith
 
 below : (s : Bool) (x : Float) (D K j : ℕ) → HasValue x s (D * 2 ^ K) (2 ^ 1074) → D < 2 ^ 53 → K + j ≡ 925 → 30 ≤ j → narrow_of x ≡ of_bits binary32 (signed binary32 s + closest D (2 ^ j))
 below s x D K j v h e l =
@@ -309,19 +264,13 @@ sub a l h =
 
 closest_none : (D u : ℕ) → D * 2 < u → closest D u ≡ 0
 closest_none D u h =
-    let l : D < u = less D u h in
+    let l : D < u = omega (arith, h) in
     ap (λ (z : ℕ). nearest z (compare (D % u * 2) u)) (div-eq_of_lt l) ∙ ap (λ (z : ℕ). nearest 0 (compare (z * 2) u)) (mod-eq_of_lt l) ∙ go (compare (D * 2) u) (cmp (D * 2) u)
   where
-    less : (D u : ℕ) → D * 2 < u → D < u
-    less D u h = omega arith
-
     go : (o : Ordering) → Cmp o (D * 2) u → nearest 0 o ≡ 0
     go Ordering.lt c = refl
     go Ordering.eq c = refl
-    go Ordering.gt c = absurd (clash (D * 2) u h c)
-      where
-        clash : (x y : ℕ) → x < y → y < x → ⊥
-        clash x y p q = omega arith
+    go Ordering.gt c = absurd (omega (arith, h, c))
 
 vanish : (s : Bool) (x : Float) (D K : ℕ) → HasValue x s (D * 2 ^ K) (2 ^ 1074) → D < 2 ^ 53 → K ≤ 870 → narrow_of x ≡ of_bits binary32 (signed binary32 s + 0)
 vanish s x D K v h l =
@@ -338,14 +287,8 @@ vanish s x D K v h l =
 pub tiny : (a : ℕ) → a < 0x3680_0000_0000_0000 → Narrowed a 0
 tiny a h = record { small = lit≤ tt; is = λ s. go s (a / 0x10_0000_0000_0000) refl }
   where
-    first : (a : ℕ) → a / 0x10_0000_0000_0000 ≡ 0 → a < 0x10_0000_0000_0000
-    first a e = omega arith
-
-    wide : (a : ℕ) → a / 0x10_0000_0000_0000 ≡ 0 → a < 2 ^ 53
-    wide a e = omega arith
-
     go : (s : Bool) (x : ℕ) → a / 0x10_0000_0000_0000 ≡ x → narrow_of (of_bits binary64 (signed binary64 s + a)) ≡ of_bits binary32 (signed binary32 s + 0)
-    go s zero e = vanish s (of_bits binary64 (signed binary64 s + a)) a 0 (source_low s a (first a e)) (wide a e) (lit≤ tt)
+    go s zero e = vanish s (of_bits binary64 (signed binary64 s + a)) a 0 (source_low s a (omega (arith, e))) (omega (arith, e)) (lit≤ tt)
     go s (suc K) e = vanish s (of_bits binary64 (signed binary64 s + a)) (0x10_0000_0000_0000 + a % 0x10_0000_0000_0000) K (source s a K e (omega arith)) (digits_hi a) (omega arith)
 
 -- ---- with the sign

@@ -15,16 +15,10 @@ use Rattle.float.proofs.Sums.{div_over}
 use Rattle.float.proofs.Compared.{nought, lt→cross, lt_or_eq}
 
 -- ---- `to_unsigned` keeps the order
-min_mono : (a b c : ℕ) → a ≤ b → min a c ≤ min b c
-min_mono a b c h = omega arith
-
 -- not negative, and at most a negative value: zero
 no_size : (m u d : ℕ) → 0 < u → 0 < d → m * u * d ≡ 0 → m ≡ 0
 no_size zero u d U D h = refl
-no_size (suc m) u d U D h = absurd (lt_irrefl 0 (subst (λ (z : ℕ). 0 < z) h (mul-pos (mul-pos (native_pos m) U) D)))
-  where
-    native_pos : (m : ℕ) → 0 < suc m
-    native_pos m = omega arith
+no_size (suc m) u d U D h = absurd (lt_irrefl 0 (subst (λ (z : ℕ). 0 < z) h (mul-pos (mul-pos (omega arith) U) D)))
 
 pub unsigned_mono : (w : ℕ) (x y : Float) → T (le x y) → to_unsigned w x ≤ to_unsigned w y
 unfolding le to_unsigned
@@ -45,15 +39,12 @@ unsigned_mono w (fin false m e) (inf false) h = min-le_right (m * up e / down e)
 unsigned_mono w (fin true m e) (fin t n d) h = zero-le
 unsigned_mono w (fin false m e) (fin true n d) h =
     let z : m ≡ 0 = no_size m (up e) (down d) (up_pos e) (down_pos d) (eqb→eq (m * up e * down d) 0 (and_r (eqb (m * up e * down d) (n * up d * down e)) (eqb (m * up e * down d) 0) h)) in
-    le_of_eq (ap (λ (y : ℕ). min (y * up e / down e) (2 ^ w - 1)) z ∙ ap (λ (y : ℕ). min (y / down e) (2 ^ w - 1)) (zero-mul (up e)) ∙ ap (λ (y : ℕ). min y (2 ^ w - 1)) (none (down e) (down_pos e)) ∙ cut (2 ^ w - 1))
+    le_of_eq (ap (λ (y : ℕ). min (y * up e / down e) (2 ^ w - 1)) z ∙ ap (λ (y : ℕ). min (y / down e) (2 ^ w - 1)) (zero-mul (up e)) ∙ ap (λ (y : ℕ). min y (2 ^ w - 1)) (none (down e) (down_pos e)) ∙ omega arith)
   where
     none : (d : ℕ) → 0 < d → 0 / d ≡ 0
     none d D = div-eq_of_lt D
-
-    cut : (c : ℕ) → min 0 c ≡ 0
-    cut c = omega arith
 unsigned_mono w (fin false m e) (fin false n d) h =
-    min_mono (m * up e / down e) (n * up d / down d) (2 ^ w - 1) (div_mono (m * up e) (down e) (n * up d) (down d) (down_pos e) (down_pos d) (lt_or_eq (m * up e * down d) (n * up d * down e) h))
+    omega (arith, div_mono (m * up e) (down e) (n * up d) (down d) (down_pos e) (down_pos d) (lt_or_eq (m * up e * down d) (n * up d * down e) h))
 
 -- ---- a rounded value above zero has its sign clear and comes of a fraction above zero
 nought_value : HasValue nought false 0 1
@@ -78,13 +69,10 @@ round_minus f a c h = units_minus f _ _ (subst (λ (x : Float). T (lt nought x))
 round_above : (f : Format) (a c : ℕ) → 0 < c → T (lt nought (round f false a c)) → 0 < a
 round_above f a c C h =
     elim (eq-zero-or-pos a) [
-      | inl z ↦ absurd (none (0 * c) (lt→cross nought (round f false 0 c) 0 1 0 c (lit< tt) C nought_value (nothing f c C) (subst (λ (x : ℕ). T (lt nought (round f false x c))) z h)))
+      | inl z ↦ absurd (omega (arith, lt→cross nought (round f false 0 c) 0 1 0 c (lit< tt) C nought_value (nothing f c C) (subst (λ (x : ℕ). T (lt nought (round f false x c))) z h)))
       | inr p ↦ p
     ]
   where
-    none : (z : ℕ) → z < 0 → ⊥
-    none z h = omega arith
-
     nothing : (f : Format) (c : ℕ) → 0 < c → HasValue (round f false 0 c) false 0 c
     nothing f c C = round_exact f false 0 c 0 0 C (pow_pos (prec f)) (pow_pos (low f + suc (emax f))) (zero-mul (2 ^ low f) ∙ sym (zero-mul c))
 
@@ -97,9 +85,6 @@ minus_above : (f : Format) (a b c : ℕ) → T (lt nought (sum f true a true b c
 unfolding sum
 minus_above f a b c h = round_minus f (a + b) c h
 
-left : (a b : ℕ) → 0 < a - b → b < a
-left a b h = omega arith
-
 -- a - b
 less_above : (f : Format) (a b c : ℕ) → 0 < c → T (lt nought (sum f false a true b c)) → b < a
 unfolding sum
@@ -107,7 +92,7 @@ less_above f a b c C = go (ltb a b)
   where
     go : (t : Bool) → T (lt nought (cond t (round f true (b - a) c) (round f false (a - b) c))) → b < a
     go true h = absurd (round_minus f (b - a) c h)
-    go false h = left a b (round_above f (a - b) c C h)
+    go false h = omega (arith, round_above f (a - b) c C h)
 
 -- b - a
 more_above : (f : Format) (a b c : ℕ) → 0 < c → T (lt nought (sum f true a false b c)) → a < b
@@ -117,14 +102,11 @@ more_above f a b c C = go (ltb a b) (ltb→lt a b) (nltb→le a b) (ltb b a) (nl
     go : (t : Bool) → (T t → a < b) → (T (not t) → b ≤ a) → (u : Bool) → (T (not u) → a ≤ b) → T (lt nought (cond t (round f false (b - a) c) (round f u (a - b) c))) → a < b
     go true k l u m h = k tt
     go false k l true m h = absurd (round_minus f (a - b) c h)
-    go false k l false m h = absurd (not-le_of_lt (left a b (round_above f (a - b) c C h)) (m tt))
-
-swap : (a b : ℕ) → 0 < a + b → 0 < b + a
-swap a b h = omega arith
+    go false k l false m h = absurd (not-le_of_lt (omega (arith, round_above f (a - b) c C h)) (m tt))
 
 fin_above : (f : Format) (s : Bool) (m : ℕ) (e : ℤ) (t : Bool) (n : ℕ) (d : ℤ) (c : ℕ) → 0 < c → T (lt nought (sum f s (m * up e * down d) (not t) (n * up d * down e) c)) → T (lt (fin t n d) (fin s m e))
 unfolding lt
-fin_above f false m e true n d c C h = lt→ltb 0 (n * up d * down e + m * up e * down d) (swap (m * up e * down d) (n * up d * down e) (plus_above f (m * up e * down d) (n * up d * down e) c C h))
+fin_above f false m e true n d c C h = lt→ltb 0 (n * up d * down e + m * up e * down d) (omega (arith, plus_above f (m * up e * down d) (n * up d * down e) c C h))
 fin_above f false m e false n d c C h = lt→ltb (n * up d * down e) (m * up e * down d) (less_above f (m * up e * down d) (n * up d * down e) c C h)
 fin_above f true m e true n d c C h = lt→ltb (m * up e * down d) (n * up d * down e) (more_above f (m * up e * down d) (n * up d * down e) c C h)
 fin_above f true m e false n d c C h = absurd (minus_above f (m * up e * down d) (n * up d * down e) c h)

@@ -78,16 +78,13 @@ rem_small f (fin s m e) (fin u n g) t h =
     let a = m * up e * down g in
     let b = n * up g * down e in
     let l : a < b = ltb→lt a b h in
-    let b-pos : 0 < n = some n (up g) (down e) (lt_of_le_of_lt (zero_le_any a) l) in
+    let b-pos : 0 < n = some n (up g) (down e) (lt_of_le_of_lt (omega arith) l) in
     sym
     (cond_nil n nan (round f s (a % b) (down e * down g)) b-pos
     ∙ ap (λ (z : ℕ). round f s z (down e * down g)) (mod-eq_of_lt l)
     ∙ round_same f s a (down e * down g) (m * up e) (down e) (mul-pos (down_pos e) (down_pos g)) (down_pos e) (mul_assoc (m * up e) (down g) (down e) ∙ ap (λ (z : ℕ). m * up e * z) (mul_comm (down g) (down e)))
     ∙ round_self f s m e t)
   where
-    zero_le_any : (a : ℕ) → 0 ≤ a
-    zero_le_any a = omega arith
-
     some : (n u d : ℕ) → 0 < n * u * d → 0 < n
     some zero u d h = subst (λ (z : ℕ). 0 < z) (ap (λ (z : ℕ). z * d) (zero-mul u) ∙ zero-mul d) h
     some (suc n) u d h = zero-lt-suc n

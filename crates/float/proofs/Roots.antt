@@ -71,10 +71,7 @@ nearest_is p q u o h z k c = go o c
         record { above = omega (arith, k.least); below = omega arith }
     go Ordering.eq e =
         let m : 4 * p ≡ (2 * q + 1) * (2 * q + 1) = eq_of_mul-eq-mul_right (u * u) (mul-pos h h) (4 * p) ((2 * q + 1) * (2 * q + 1)) (sym four ∙ e ∙ half) in
-        absurd (never m)
-      where
-        never : 4 * p ≡ (2 * q + 1) * (2 * q + 1) → ⊥
-        never m = omega arith
+        absurd (omega (arith, m))
     go Ordering.gt l =
         let m : (2 * q + 1) * (2 * q + 1) < 4 * p = lt_of_mul-lt-mul_right (u * u) (subst (λ (x : ℕ). (2 * q + 1) * (2 * q + 1) * (u * u) < x) four (subst (λ (x : ℕ). x < 4 * (p * (u * u))) half l)) in
         subst (λ (x : ℕ). NearRoot p x) (add-one q) (record { above = omega arith; below = omega (arith, k.most) })

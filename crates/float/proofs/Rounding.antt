@@ -2,11 +2,9 @@
 -- of no other value (`rounded_unique`). So it does of what is defined by it: `narrow_rounded`, `of_rounded`,
 -- `fraction_rounded`, `add_rounded`, `sub_rounded`, `mul_rounded`, `div_rounded`. Assumes nothing.
 use Rattle.std.proofs.Common.{◌≡◌, ℕ, suc, ◌+◌, ◌-◌, ◌*◌, ◌^◌, ◌<◌, ◌≤◌, Bool, true, false, cond, not, ◌&&◌, T, ltb, ◌↔◌, sym, refl, ap, ◌∙◌, subst, inl, inr, ⊎_elim, le_trans, le_of_eq, lt_of_lt_of_le, mul-le-mul_right, mul_assoc, eq-zero-or-pos, le_antisymm, mul-lt-mul_of_pos_right, mul-pos, pow-suc, lt_of_not-le, zero-mul, le_of_mul-le-mul_right, arith, lit<, ltb→lt, nltb→le, pow_pos, pow-add}
-use mathlib.Core.Bool.{beq}
+use mathlib.Core.Bool.{beq, not-not}
 use native.Mathlib.Decide.{dec_le}
-use lib.Arith.{le→nltb}
-use lib.Ieee.{Float, nan, inf, fin, Format, binary32, binary64, prec, emax, low, unlike, up, down, size, odd, units, round, sum, of_int, fits}
-use lib.Ieee.Bits.{cond_no}
+use lib.Ieee.{Float, nan, inf, fin, Format, binary32, binary64, prec, emax, low, unlike, up, down, size, round, sum, of_int, fits}
 use lib.Ieee.Fits.{round_is, round-fits, down_pos}
 use lib.Ieee.Exact.{HasValue, units_val}
 use lib.Ieee.Order.{drop, kept}
@@ -14,6 +12,7 @@ use lib.Ieee.Scale.{grid, overflow, round_same}
 use Rattle.float.specs.Ops.{◌⊕◌, ◌⊖◌, ◌⊗◌, ◌⊘◌, of, fraction}
 use Rattle.float.specs.Single.{narrow_of}
 use Rattle.float.proofs.Exactly.{unique}
+use Rattle.float.proofs.Narrowing.{units_over}
 use Rattle.float.proofs.Sums.{add_over, sub_over, mul_over, div_over}
 use Rattle.float.proofs.Meaning.{Digits, digits}
 use Rattle.float.specs.Nearest.{apart, last_digit, Closer, Overflows, Rounded}
@@ -30,10 +29,7 @@ over_units f a c = (
 )
   where
     odds : (A x y B L c : ℕ) → A ≡ x + 1 → y ≡ 2 * x + 1 → (A * (B * L) + x * (B * L)) * c ≡ y * B * c * L
-    odds A x y B L c e g = ap (λ (z : ℕ). (z * (B * L) + x * (B * L)) * c) e ∙ spread x ∙ ap (λ (z : ℕ). z * B * c * L) (sym g)
-      where
-        spread : (x : ℕ) → ((x + 1) * (B * L) + x * (B * L)) * c ≡ (2 * x + 1) * B * c * L
-        spread x = omega arith
+    odds A x y B L c e g = ap (λ (z : ℕ). (z * (B * L) + x * (B * L)) * c) e ∙ (omega arith) ∙ ap (λ (z : ℕ). z * B * c * L) (sym g)
 
     same : (overflow f + (2 ^ prec f - 1) * 2 ^ highest f) * c ≡ (2 ^ suc (prec f) - 1) * 2 ^ (suc (emax f) - prec f) * c * 2 ^ low f
     same =
@@ -65,10 +61,6 @@ at_over f n c r w l =
     ]
 
 -- from the overflow on it is an infinity
-units_over : (f : Format) (s : Bool) (q k : ℕ) → overflow f ≤ q * 2 ^ k → units f s q k ≡ inf s
-unfolding units
-units_over f s q k l = cond_no (ltb (q * 2 ^ k) (overflow f)) (odd (suc (prec f)) s q k (low f)) (inf s) (le→nltb (q * 2 ^ k) (overflow f) l)
-
 -- ---- the theorem
 
 -- r units against b units with the same sign, and with the other
@@ -219,9 +211,5 @@ add_rounded x y s t a b c C v w =
 
 pub sub_rounded : (x y : Float) (s t : Bool) (a b c : ℕ) → 0 < c → HasValue x s a c → HasValue y t b c → Rounded binary64 (sum_sign s a (not t) b) (apart s a t b) c (x ⊖ y)
 sub_rounded x y s t a b c C v w =
-    subst (λ (z : Bool). Rounded binary64 (sum_sign s a (not t) b) (apart s a z b) c (x ⊖ y)) (twice t)
+    subst (λ (z : Bool). Rounded binary64 (sum_sign s a (not t) b) (apart s a z b) c (x ⊖ y)) (not-not t)
     (subst (Rounded binary64 (sum_sign s a (not t) b) (apart s a (not (not t)) b) c) (sym (sub_over binary64 x y s t a b c C v w ∙ sum_is binary64 s a (not t) b c)) (round_rounded binary64 (sum_sign s a (not t) b) (apart s a (not (not t)) b) c C))
-  where
-    twice : (t : Bool) → not (not t) ≡ t
-    twice true = refl
-    twice false = refl

@@ -4,7 +4,7 @@ use Rattle.std.proofs.Common.{◌≡◌, ℕ, zero, suc, ◌+◌, ◌-◌, ◌*�
 use Rattle.std.proofs.lemmas.Bool.{eqb-true}
 use native.Mathlib.Nat.{mul-mul-mul_comm}
 use lib.Ieee.{Float, nan, inf, fin, Format, binary32, binary64, prec, emax, low, up, down, size, round, root_below, root_twice, sqrt, fits}
-use lib.Ieee.Fits.{down_pos, up_pos}
+use lib.Ieee.Fits.{down_pos, reach, up_pos}
 use lib.Ieee.Exact.{HasValue}
 use lib.Ieee.Root.{Root, whole_part}
 use Rattle.float.specs.Root.{sqrt_of}
@@ -38,14 +38,8 @@ over : (n h : ℕ) → 2 * h ≤ root_twice n → h * h ≤ n
 unfolding root_twice
 over n h k = over_by (root_below (size n) n) n h _ (whole_part n) k
 
--- ---- what is rounded: t / d, with t the root of 4 * n * u ^ 2, twice, and d = 4 * u * w; so t / d * w is the root of n
-
--- |a - x| ≤ |a - y|, where x < y, and where y < x
-nearer_below : (a x y : ℕ) → x < y → a - x + (x - a) ≤ a - y + (y - a) → 2 * a ≤ x + y
-nearer_below a x y l h = omega arith
-
-nearer_above : (a x y : ℕ) → y < x → a - x + (x - a) ≤ a - y + (y - a) → x + y ≤ 2 * a
-nearer_above a x y l h = omega arith
+-- ---- what is rounded: t / d, with t the root of 4 * n * u ^ 2, twice, and d = 4 * u * w; so t / d * w is the root of
+-- n
 
 closer_le : (f : Format) (r b l g : ℕ) → Closer f r b l g → l ≤ g
 closer_le f r b l g h = elim h [ inl k ↦ omega arith | inr k ↦ omega (arith, k.0) ]
@@ -63,14 +57,14 @@ module _ (n u w d : ℕ) (W : 0 < w) (U : 0 < u) (e : d ≡ 4 * u * w) where
   at_most : (r b : ℕ) → r < b → root_twice (4 * n * (u * u)) * w - r * d + (r * d - root_twice (4 * n * (u * u)) * w) ≤ root_twice (4 * n * (u * u)) * w - b * d + (b * d - root_twice (4 * n * (u * u)) * w) → 4 * n ≤ (r + b) * (r + b)
   at_most r b l h =
       let t = root_twice (4 * n * (u * u)) in
-      let k : 2 * (t * w) ≤ r * d + b * d = nearer_below (t * w) (r * d) (b * d) (mul-lt-mul_of_pos_right l some) h in
+      let k : 2 * (t * w) ≤ r * d + b * d = omega (arith, mul-lt-mul_of_pos_right l some, h) in
       let m : t ≤ 2 * ((r + b) * u) = le_of_mul-le-mul_right {k = w} (omega (arith, both r b)) W in
       le_of_mul-le-mul_right (le_trans (under (4 * n * (u * u)) ((r + b) * u) m) (le_of_eq (square (r + b)))) (mul-pos U U)
 
   at_least : (r b : ℕ) → b < r → root_twice (4 * n * (u * u)) * w - r * d + (r * d - root_twice (4 * n * (u * u)) * w) ≤ root_twice (4 * n * (u * u)) * w - b * d + (b * d - root_twice (4 * n * (u * u)) * w) → (r + b) * (r + b) ≤ 4 * n
   at_least r b l h =
       let t = root_twice (4 * n * (u * u)) in
-      let k : r * d + b * d ≤ 2 * (t * w) = nearer_above (t * w) (r * d) (b * d) (mul-lt-mul_of_pos_right l some) h in
+      let k : r * d + b * d ≤ 2 * (t * w) = omega (arith, mul-lt-mul_of_pos_right l some, h) in
       let m : 2 * ((r + b) * u) ≤ t = le_of_mul-le-mul_right {k = w} (omega (arith, both r b)) W in
       le_of_mul-le-mul_right (le_trans (le_of_eq (sym (square (r + b)))) (over (4 * n * (u * u)) ((r + b) * u) m)) (mul-pos U U)
 
@@ -80,20 +74,13 @@ low_most : (f : Format) → low f ≤ 1074
 low_most binary32 = lit≤ tt
 low_most binary64 = lit≤ tt
 
-digits_most : (f : Format) → prec f ≤ suc (emax f)
-digits_most binary32 = lit≤ tt
-digits_most binary64 = lit≤ tt
-
 -- a units, with q - l places of the root more, and twice
 places : (a l q : ℕ) → l ≤ q → 4 * (a * 2 ^ l) * (2 ^ (q - l) * 2 ^ (q - l)) ≡ a * 2 ^ (2 + q + q - l)
 places a l q h =
     let e : 2 + q + q - l ≡ 2 + l + (q - l + (q - l)) = omega arith in
     let k : 2 ^ (2 + q + q - l) ≡ 2 ^ 2 * 2 ^ l * (2 ^ (q - l) * 2 ^ (q - l)) =
     ap (λ (i : ℕ). 2 ^ i) e ∙ pow-add 2 (2 + l) (q - l + (q - l)) ∙ ap (λ (x : ℕ). x * 2 ^ (q - l + (q - l))) (pow-add 2 2 l) ∙ ap (λ (x : ℕ). 2 ^ 2 * 2 ^ l * x) (pow-add 2 (q - l) (q - l)) in
-    regroup a (2 ^ l) (2 ^ (q - l) * 2 ^ (q - l)) ∙ ap (λ (x : ℕ). a * x) (sym k)
-  where
-    regroup : (a b c : ℕ) → 4 * (a * b) * c ≡ a * (4 * b * c)
-    regroup a b c = omega arith
+    (omega arith) ∙ ap (λ (x : ℕ). a * x) (sym k)
 
 divisor : (l q : ℕ) → l ≤ q → 2 ^ (2 + q) ≡ 4 * 2 ^ (q - l) * 2 ^ l
 divisor l q h =
@@ -114,13 +101,10 @@ no_overflow n p e q h l k o =
     let s : 2 ^ p ≤ 2 ^ suc p - 1 = omega (arith, pow-suc 2 p, pow_pos p) in
     let m : 2 ^ p * 2 ^ (e - p) * 2 ^ (2 + q) ≤ 2 * root_twice n = le_trans (mul-le-mul_right (2 ^ (2 + q)) (mul-le-mul_right (2 ^ (e - p)) s)) o in
     let c : 2 ^ p * 2 ^ (e - p) * 2 ^ (2 + q) ≡ 4 * 2 ^ (e + q) =
-    ap (λ (x : ℕ). x * 2 ^ (2 + q)) (sym (pow-add 2 p (e - p)) ∙ ap (λ (i : ℕ). 2 ^ i) b) ∙ ap (λ (x : ℕ). 2 ^ e * x) (pow-add 2 2 q) ∙ four (2 ^ e) (2 ^ q) ∙ ap (λ (x : ℕ). 4 * x) (sym (pow-add 2 e q)) in
+    ap (λ (x : ℕ). x * 2 ^ (2 + q)) (sym (pow-add 2 p (e - p)) ∙ ap (λ (i : ℕ). 2 ^ i) b) ∙ ap (λ (x : ℕ). 2 ^ e * x) (pow-add 2 2 q) ∙ (omega arith) ∙ ap (λ (x : ℕ). 4 * x) (sym (pow-add 2 e q)) in
     let w : 2 ^ (e + q) * 2 ^ (e + q) ≤ n = over n (2 ^ (e + q)) (omega arith) in
     let z : e + q + (e + q) < e + (2 + q + q) = pow_lt→lt (e + q + (e + q)) (e + (2 + q + q)) (lt_of_le_of_lt (le_trans (le_of_eq (pow-add 2 (e + q) (e + q))) w) k) in
     omega arith
-  where
-    four : (x y : ℕ) → x * (4 * y) ≡ 4 * (x * y)
-    four x y = omega arith
 
 abbrev twice_root : Format → ℕ → ℕ
 twice_root f a = root_twice (4 * (a * 2 ^ low f) * (2 ^ (2270 - low f) * 2 ^ (2270 - low f)))
@@ -152,7 +136,7 @@ rounded_same f a z A k =
     let h : low f ≤ 2270 = le_trans (low_most f) (lit≤ tt) in
     let w = round_rounded f false (twice_root f a) (2 ^ 2272) (pow_pos 2272) in
     ap (λ (x : ℕ). round f false (root_twice x) (2 ^ 2272)) (sym (places a (low f) 2270 h))
-    ∙ one_value f a (round f false (twice_root f a) (2 ^ 2272)) z h w.held (w.near (no_overflow (4 * (a * 2 ^ low f) * (2 ^ (2270 - low f) * 2 ^ (2270 - low f))) (prec f) (suc (emax f)) 2270 (digits_most f) (wide f) (finite_places a (low f) (suc (emax f)) 2270 h A))) k
+    ∙ one_value f a (round f false (twice_root f a) (2 ^ 2272)) z h w.held (w.near (no_overflow (4 * (a * 2 ^ low f) * (2 ^ (2270 - low f) * 2 ^ (2270 - low f))) (prec f) (suc (emax f)) 2270 (reach f) (wide f) (finite_places a (low f) (suc (emax f)) 2270 h A))) k
 
 -- ---- every value
 

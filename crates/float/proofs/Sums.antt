@@ -1,7 +1,8 @@
 -- The four operations on values that are known as fractions (`HasValue x s a c`: x is ± a / c): `add_over`,
 -- `sub_over` turn them into `sum` of the numerators over the one denominator, and `sum_plus`, `sum_less`, `sum_more`
 -- say what that is; `mul_over`, `div_over`.
--- Where a value stands to zero: `under_zero`, `over_zero`, `not_under`, `not_over_minus`. Over any format. Assumes nothing.
+-- Where a value stands to zero: `under_zero`, `over_zero`, `not_under`, `not_over_minus`. Over any format. Assumes
+-- nothing.
 use Rattle.std.proofs.Common.{◌≡◌, ℕ, zero, suc, ◌+◌, ◌-◌, ◌*◌, ◌<◌, ◌≤◌, Bool, true, false, cond, not, ◌&&◌, T, eqb, ltb, sym, refl, ap, ◌∙◌, subst, true≢false, le_of_eq, lt_of_lt_of_le, lt_of_le_of_lt, lt_irrefl, zero-lt-suc, mul_assoc, mul_comm, lt_of_mul-lt-mul_right, mul-lt-mul_of_pos_right, mul-pos, lt_of_not-le, zero-mul, mul-one, mul_right_comm, not-le_of_lt, arith, ltb→lt, lt→ltb}
 use native.Mathlib.Nat.{mul-mul-mul_comm, mul-sub, eq_of_mul-eq-mul_right}
 use mathlib.Core.Bool.{beq}
@@ -122,40 +123,28 @@ size_pos : (m u d a c : ℕ) → 0 < d → m * u * c ≡ a * d → 0 < a → 0 <
 size_pos m u d a c D e h = lt_of_not-le (λ (g : m * u ≤ 0). not-le_of_lt (mul-pos h D) (none (m * u) c (a * d) g e))
   where
     none : (x c p : ℕ) → x ≤ 0 → x * c ≡ p → p ≤ 0
-    none x c p g e = le_of_eq (sym e ∙ ap (λ (z : ℕ). z * c) (nil x g) ∙ zero-mul c)
-      where
-        nil : (x : ℕ) → x ≤ 0 → x ≡ 0
-        nil x h = omega arith
+    none x c p g e = le_of_eq (sym e ∙ ap (λ (z : ℕ). z * c) (omega (arith, g)) ∙ zero-mul c)
 
 pub under_zero : (x : Float) (a c : ℕ) → 0 < a → HasValue x true a c → T (lt x nought)
 unfolding lt
 under_zero nan a c A v = absurd v
 under_zero (inf s) a c A v = absurd v
 under_zero (fin false m e) a c A v = absurd (true≢false (sym v.0))
-under_zero (fin true m e) a c A v = lt→ltb 0 (m * up e * 1 + 0 * 1 * down e) (more (m * up e) (m * up e * 1) (0 * 1 * down e) (mul-one (m * up e)) (size_pos m (up e) (down e) a c (down_pos e) v.1 A))
-  where
-    more : (x y z : ℕ) → y ≡ x → 0 < x → 0 < y + z
-    more x y z e h = omega arith
+under_zero (fin true m e) a c A v = lt→ltb 0 (m * up e * 1 + 0 * 1 * down e) (omega (arith, mul-one (m * up e), size_pos m (up e) (down e) a c (down_pos e) v.1 A))
 
 pub not_under : (x : Float) (a c : ℕ) → HasValue x false a c → T (not (lt x nought))
 unfolding lt
 not_under nan a c v = absurd v
 not_under (inf s) a c v = absurd v
 not_under (fin true m e) a c v = absurd (true≢false v.0)
-not_under (fin false m e) a c v = le→nltb (m * up e * 1) (0 * 1 * down e) (least (m * up e * 1) (0 * 1 * down e) (zero-mul (down e)))
-  where
-    least : (x z : ℕ) → z ≡ 0 → z ≤ x
-    least x z e = omega arith
+not_under (fin false m e) a c v = le→nltb (m * up e * 1) (0 * 1 * down e) (omega (arith, zero-mul (down e)))
 
 pub over_zero : (x : Float) (a c : ℕ) → 0 < a → HasValue x false a c → T (lt nought x)
 unfolding lt
 over_zero nan a c A v = absurd v
 over_zero (inf s) a c A v = absurd v
 over_zero (fin true m e) a c A v = absurd (true≢false v.0)
-over_zero (fin false m e) a c A v = lt→ltb (0 * 1 * down e) (m * up e * 1) (more (m * up e) (m * up e * 1) (0 * 1 * down e) (mul-one (m * up e)) (zero-mul (down e)) (size_pos m (up e) (down e) a c (down_pos e) v.1 A))
-  where
-    more : (x y z : ℕ) → y ≡ x → z ≡ 0 → 0 < x → z < y
-    more x y z e g h = omega arith
+over_zero (fin false m e) a c A v = lt→ltb (0 * 1 * down e) (m * up e * 1) (omega (arith, mul-one (m * up e), zero-mul (down e), size_pos m (up e) (down e) a c (down_pos e) v.1 A))
 
 -- a minus, or nothing
 pub not_over_minus : (x : Float) (a c : ℕ) → HasValue x true a c → T (not (lt nought x))
@@ -173,7 +162,4 @@ none_under (inf s) c C v h = v
 none_under (fin false m e) c C v h = true≢false (sym v.0)
 none_under (fin true m e) c C v h =
     let z : m * up e ≡ 0 = eq_of_mul-eq-mul_right c C (m * up e) 0 (v.1 ∙ zero-mul (down e) ∙ sym (zero-mul c)) in
-    none (m * up e) (m * up e * 1) (0 * 1 * down e) z (mul-one (m * up e)) (zero-mul (down e)) (ltb→lt 0 (m * up e * 1 + 0 * 1 * down e) h)
-  where
-    none : (x y z : ℕ) → x ≡ 0 → y ≡ x → z ≡ 0 → 0 < y + z → ⊥
-    none x y z a b c h = omega arith
+    omega (arith, z, mul-one (m * up e), zero-mul (down e), ltb→lt 0 (m * up e * 1 + 0 * 1 * down e) h)

@@ -62,9 +62,6 @@ last_bit f (fin t m e) s r v =
 even_last : (p k q : ℕ) → 2 ≤ p → q ≤ 2 ^ p → q % 2 ≡ 0 → q * 2 ^ k / 2 ^ (size (q * 2 ^ k) - p) % 2 ≡ 0
 even_last p k q P h e = go (size (q * 2 ^ k)) (size_reaches (q * 2 ^ k) (p + k)) (size-le (q * 2 ^ k) (suc (p + k)) (lt_of_le_of_lt most (pow-lt (le_refl (suc (p + k)))))) (dec_le (size (q * 2 ^ k)) (p + k))
   where
-    even : (m h : ℕ) → m ≡ h * 2 → m % 2 ≡ 0
-    even m h e = omega arith
-
     most : q * 2 ^ k ≤ 2 ^ (p + k)
     most = le_trans (mul-le-mul_right (2 ^ k) h) (le_of_eq (sym (pow-add 2 p k)))
 
@@ -72,17 +69,14 @@ even_last p k q P h e = go (size (q * 2 ^ k)) (size_reaches (q * 2 ^ k) (p + k))
     go z r w (yes l) =
         let i = k - (z - p) in
         let s : k ≡ i + (z - p) = omega arith in
-        let twos : q * 2 ^ i ≡ q / 2 * 2 ^ i * 2 = ap (λ (x : ℕ). x * 2 ^ i) (halved q e) ∙ mul_right_comm (q / 2) 2 (2 ^ i) in
+        let twos : q * 2 ^ i ≡ q / 2 * 2 ^ i * 2 = ap (λ (x : ℕ). x * 2 ^ i) (omega (arith, e)) ∙ mul_right_comm (q / 2) 2 (2 ^ i) in
         cut_off (q * 2 ^ k) (q * 2 ^ i) (z - p) (ap (λ (j : ℕ). q * 2 ^ j) s ∙ sym (pow_split q i (z - p)))
-        ∙ even (q * 2 ^ i) (q / 2 * 2 ^ i) twos
-      where
-        halved : (q : ℕ) → q % 2 ≡ 0 → q ≡ q / 2 * 2
-        halved q e = omega arith
+        ∙ omega (arith, twos)
     go z r w (no l) =
         let g = lt_of_not-le l in
         let s : p + k ≡ suc (p - 2) + (z - p) = omega arith in
         cut_off (q * 2 ^ k) (2 ^ suc (p - 2)) (z - p) (le_antisymm most (r g) ∙ ap (λ (j : ℕ). 2 ^ j) s ∙ pow-add 2 (suc (p - 2)) (z - p))
-        ∙ even (2 ^ suc (p - 2)) (2 ^ (p - 2)) (pow-suc 2 (p - 2))
+        ∙ omega (arith, pow-suc 2 (p - 2))
 
 -- a value of the format that is an odd g times 2 ^ k ends as g does, if all p digits are in use
 odd_last : (p k g b : ℕ) → 0 < p → Digits p b → b ≡ g * 2 ^ k → g % 2 ≡ 1 → (k ≡ 0) ⊎ (2 ^ (p - 1) * 2 ^ k ≤ b) → b / 2 ^ (size b - p) % 2 ≡ 1
@@ -95,16 +89,15 @@ odd_last p k g b P d e o deep =
     ] in
     cut_off b g (size b - p) (e ∙ ap (λ (i : ℕ). g * 2 ^ i) (sym z)) ∙ o
   where
-    even : (h : ℕ) → g ≡ h * 2 → ⊥
-    even h e = omega arith
-
     ends : k < d.j → ⊥
     ends l =
         let i = d.j - suc k in
         let s : d.j ≡ suc i + k = omega arith in
-        even (d.m * 2 ^ i)
-        (eq_of_mul-eq-mul_right (2 ^ k) (pow_pos k) g (d.m * 2 ^ i * 2)
-        (sym e ∙ d.is ∙ ap (λ (j : ℕ). d.m * 2 ^ j) s ∙ sym (pow_split d.m (suc i) k) ∙ ap (λ (x : ℕ). d.m * x * 2 ^ k) (pow-suc 2 i) ∙ ap (λ (x : ℕ). x * 2 ^ k) (sym (mul_assoc d.m (2 ^ i) 2))))
+        omega (
+          arith,
+          eq_of_mul-eq-mul_right (2 ^ k) (pow_pos k) g (d.m * 2 ^ i * 2)
+              (sym e ∙ d.is ∙ ap (λ (j : ℕ). d.m * 2 ^ j) s ∙ sym (pow_split d.m (suc i) k) ∙ ap (λ (x : ℕ). d.m * x * 2 ^ k) (pow-suc 2 i) ∙ ap (λ (x : ℕ). x * 2 ^ k) (sym (mul_assoc d.m (2 ^ i) 2))),
+        )
 
 -- ---- n / c, in units, rounded to q * 2 ^ k, against a number b of p digits and zeros. Where digits are dropped, all p
 -- are in use.

@@ -15,11 +15,8 @@ whole_exact pick i s m (pos l) t =
 whole_exact pick i s m (negsuc l) t =
     let few = (fits_parts binary64 s m (negsuc l) t).0 in
     let top : pick (m * 1) (2 ^ suc l) ≤ 0x1f_ffff_ffff_ffff =
-    le_trans (i.mono (m * 1) (2 ^ suc l) 0x1f_ffff_ffff_ffff 1 (pow_pos (suc l)) (lit< tt) (less m (2 ^ suc l) few (pow_pos (suc l)))) (le_of_eq (stays pick i 0x1f_ffff_ffff_ffff)) in
+    le_trans (i.mono (m * 1) (2 ^ suc l) 0x1f_ffff_ffff_ffff 1 (pow_pos (suc l)) (lit< tt) (omega (arith, few, pow_pos (suc l)))) (le_of_eq (stays pick i 0x1f_ffff_ffff_ffff)) in
     few_exact binary64 s (pick (m * 1) (2 ^ suc l)) (pos 0) (lit≤ tt) (lt_of_le_of_lt top (lit< tt))
-  where
-    less : (m p : ℕ) → m < 2 ^ 53 → 0 < p → m * 1 * 1 ≤ 0x1f_ffff_ffff_ffff * p
-    less m p h k = omega arith
 
 -- ---- floor, ceil and round of a value x = ± a / c: exactly the whole number that each picks, with the sign of x
 

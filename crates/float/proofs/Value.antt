@@ -1,10 +1,9 @@
 -- Bit patterns of binary64 and the values that they stand for, as `sqrt_of` and `root_of` see them. Assumes nothing.
 use Rattle.std.proofs.Common.{◌≡◌, ℕ, zero, suc, ◌+◌, ◌-◌, ◌*◌, ◌/◌, ◌%◌, ◌^◌, ◌<◌, ◌≤◌, Bool, true, false, cond, not, T, eqb, ltb, ℤ, sym, refl, ap, ◌∙◌, subst, true≢false, lt_irrefl, mod-eq_of_lt, mul-pos, zero-mul, mul-one, mul_right_comm, mul-div_cancel, arith, ltb→lt, nltb→le, lt-ltb, ne_eqb}
 use borrow.Author.Tests.{lt-leb}
-use lib.Ieee.{Float, nan, inf, fin, Format, binary64, low, up, down, odd, of_fields, of_bits, is_nan, ne}
+use lib.Ieee.{Float, nan, inf, fin, Format, binary64, low, up, down, odd, of_fields, of_bits, is_nan}
 use lib.Ieee.Fits.{down_pos}
 use lib.Ieee.Bits.{nan_bits_is, nan_bits_above}
-use lib.Ieee.Compare.{nan_differs}
 use lib.Ieee.Exact.{HasValue, odd_sign}
 use Rattle.float.specs.Root.{root_of, sqrt_of}
 use Rattle.float.specs.Inner.{counted}
@@ -84,12 +83,6 @@ counted_value b h = go (ltb b (2 ^ 52)) (ltb→lt b (2 ^ 52)) (nltb→le b (2 ^ 
         subst (λ (v : Float). HasValue v false (m * 2 ^ k) (2 ^ 1074)) (sym (mid_bits k m (omega arith) (omega arith) (omega arith)) ∙ ap (of_bits binary64) e) (odd_sign 53 false m k 1074)
 
 -- ---- the other patterns
-
-pub no_nan : (x : Float) → ne x x ≡ false → T (not (is_nan x))
-unfolding is_nan
-no_nan nan h = absurd (true≢false (sym nan_differs ∙ h))
-no_nan (inf s) h = tt
-no_nan (fin s m e) h = tt
 
 pub above_inf : (b : ℕ) → 0x7ff0_0000_0000_0000 < b → b < 2 ^ 63 → T (not (is_nan (of_bits binary64 b))) → ⊥
 above_inf b h k t =

@@ -65,23 +65,11 @@ next_is : (q : ℕ) → q ≤ 2 ^ 53 → add binary64 (of_int binary64 (pos q)) 
 next_is q h = ap (λ (z : Float). add binary64 (of_int binary64 (pos q)) z) (sym one_is) ∙ whole_add binary64 q 1 h (lit≤ tt) ∙ ap (λ (n : ℕ). of_int binary64 (pos n)) (add-one q)
 
 last_is_lem : (q : ℕ) → suc q ≤ 2 ^ 53 → sub binary64 (of_int binary64 (pos (suc q))) unit ≡ of_int binary64 (pos q)
-last_is_lem q h = ap (λ (z : Float). sub binary64 (of_int binary64 (pos (suc q))) z) (sym one_is) ∙ whole_sub binary64 (suc q) 1 h (first q) ∙ ap (λ (n : ℕ). of_int binary64 (pos n)) (less q)
-  where
-    first : (q : ℕ) → 1 ≤ suc q
-    first q = omega arith
-
-    less : (q : ℕ) → suc q - 1 ≡ q
-    less q = omega arith
+last_is_lem q h = ap (λ (z : Float). sub binary64 (of_int binary64 (pos (suc q))) z) (sym one_is) ∙ whole_sub binary64 (suc q) 1 h (omega arith) ∙ ap (λ (n : ℕ). of_int binary64 (pos n)) (omega arith)
 
 module _ (m : ℕ) (e : ℤ) (t : T (fits binary64 (fin false m e))) (h : m * up e < 2 ^ 52 * down e) where
   q_lt : m * up e / down e < 2 ^ 52
   q_lt = (div-lt_iff_lt-mul (down_pos e)).1 h
-
-  room : (q : ℕ) → q < 2 ^ 52 → q ≤ 2 ^ 53
-  room q l = omega arith
-
-  room_1 : (q : ℕ) → q < 2 ^ 52 → suc q ≤ 2 ^ 53
-  room_1 q l = omega arith
 
   value_q : (k : ℕ) → k ≤ 2 ^ 53 → bounced (fin false m e) ≡ of_int binary64 (pos k) → HasValue (bounced (fin false m e)) false k 1
   value_q k l b = subst (λ (z : Float). HasValue z false k 1) (sym b) (whole_value binary64 k l)
@@ -97,26 +85,17 @@ module _ (m : ℕ) (e : ℤ) (t : T (fits binary64 (fin false m e))) (h : m * up
       let s = split a c C in
       let o = mul-one a in
       let w = fits_parts binary64 false m e t in
-      let v = value_q q (room q q_lt) b in
+      let v = value_q q (omega (arith, q_lt)) b in
       let d : HasValue (gap x) false r c = subst (λ (z : Float). HasValue z false r c) (sym g) (few_exact binary64 false r e w.1 (rest_few binary64 m e w.0)) in
-      let more : add binary64 (bounced x) unit ≡ of_int binary64 (pos (suc q)) = ap (λ (z : Float). add binary64 z unit) b ∙ next_is q (room q q_lt) in
+      let more : add binary64 (bounced x) unit ≡ of_int binary64 (pos (suc q)) = ap (λ (z : Float). add binary64 z unit) b ∙ next_is q (omega (arith, q_lt)) in
       record {
-        down_more = λ k. absurd (never (q * c) r a (a * 1) s.0 o (lt→cross x (bounced x) a c q 1 C (lit< tt) (refl, refl) v k));
+        down_more = λ k. absurd (omega (arith, s.0, o, lt→cross x (bounced x) a c q 1 C (lit< tt) (refl, refl) v k));
         down_same = λ k. b ∙ sym (opened cut m e);
-        up_more = λ k. more ∙ ap (λ (n : ℕ). of_int binary64 (pos n)) (sym (lifted_next a c C (left (q * c) r a (a * 1) s.0 o (lt→cross (bounced x) x q 1 a c (lit< tt) C v (refl, refl) k)))) ∙ sym (opened lifted m e);
-        up_same = λ k. b ∙ ap (λ (n : ℕ). of_int binary64 (pos n)) (sym (lifted_same a c C (none (q * c) r a (a * 1) s.0 o (nlt→cross (bounced x) x q 1 a c (lit< tt) C v (refl, refl) k)))) ∙ sym (opened lifted m e);
+        up_more = λ k. more ∙ ap (λ (n : ℕ). of_int binary64 (pos n)) (sym (lifted_next a c C (omega (arith, s.0, o, lt→cross (bounced x) x q 1 a c (lit< tt) C v (refl, refl) k)))) ∙ sym (opened lifted m e);
+        up_same = λ k. b ∙ ap (λ (n : ℕ). of_int binary64 (pos n)) (sym (lifted_same a c C (omega (arith, s.0, o, nlt→cross (bounced x) x q 1 a c (lit< tt) C v (refl, refl) k)))) ∙ sym (opened lifted m e);
         near_more = λ k. more ∙ ap (λ (n : ℕ). of_int binary64 (pos n)) (sym (half_next a c C (le_trans (le_of_eq (sym (one-mul c))) (le→value half (gap x) 1 2 r c (lit< tt) C (refl, refl) d k)))) ∙ sym (opened half_up m e);
         near_same = λ k. b ∙ ap (λ (n : ℕ). of_int binary64 (pos n)) (sym (half_same a c C (lt_of_lt_of_le (nle→value half (gap x) 1 2 r c (lit< tt) C (refl, refl) d k) (le_of_eq (one-mul c))))) ∙ sym (opened half_up m e);
       }
-    where
-      never : (p r a b : ℕ) → p + r ≡ a → b ≡ a → b < p → ⊥
-      never p r a b e f h = omega arith
-
-      left : (p r a b : ℕ) → p + r ≡ a → b ≡ a → p < b → 0 < r
-      left p r a b e f h = omega arith
-
-      none : (p r a b : ℕ) → p + r ≡ a → b ≡ a → b ≤ p → r ≡ 0
-      none p r a b e f h = omega arith
   small_at (under b l g) =
       let x = fin false m e in
       let a = m * up e in
@@ -127,29 +106,17 @@ module _ (m : ℕ) (e : ℤ) (t : T (fits binary64 (fin false m e))) (h : m * up
       let s = split a c C in
       let o = mul-one a in
       let w = fits_parts binary64 false m e t in
-      let v = value_q (suc q) (room_1 q q_lt) b in
-      let d : HasValue (gap x) true (c - r) c = subst (λ (z : Float). HasValue z true (c - r) c) (sym g) (few_exact binary64 true (c - r) e w.1 (few r c (2 ^ 53) l (rest_few binary64 m e w.0))) in
+      let v = value_q (suc q) (omega (arith, q_lt)) b in
+      let d : HasValue (gap x) true (c - r) c = subst (λ (z : Float). HasValue z true (c - r) c) (sym g) (few_exact binary64 true (c - r) e w.1 (omega (arith, l, rest_few binary64 m e w.0))) in
       record {
-        down_more = λ k. ap (λ (z : Float). sub binary64 z unit) b ∙ last_is_lem q (room_1 q q_lt) ∙ sym (opened cut m e);
-        down_same = λ k. absurd (within (q * c) r a (a * 1) c (suc q * c) s.0 s.1 s.2 o (nlt→cross x (bounced x) a c (suc q) 1 C (lit< tt) (refl, refl) v k));
-        up_more = λ k. absurd (beyond (q * c) r a (a * 1) c (suc q * c) s.0 s.1 s.2 o (lt→cross (bounced x) x (suc q) 1 a c (lit< tt) C v (refl, refl) k));
-        up_same = λ k. b ∙ ap (λ (n : ℕ). of_int binary64 (pos n)) (sym (lifted_next a c C (some r c C l))) ∙ sym (opened lifted m e);
+        down_more = λ k. ap (λ (z : Float). sub binary64 z unit) b ∙ last_is_lem q (omega (arith, q_lt)) ∙ sym (opened cut m e);
+        down_same = λ k. absurd (omega (arith, s.0, s.1, s.2, o, nlt→cross x (bounced x) a c (suc q) 1 C (lit< tt) (refl, refl) v k));
+        up_more = λ k. absurd (omega (arith, s.0, s.1, s.2, o, lt→cross (bounced x) x (suc q) 1 a c (lit< tt) C v (refl, refl) k));
+        up_same = λ k. b ∙ ap (λ (n : ℕ). of_int binary64 (pos n)) (sym (lifted_next a c C (omega (arith, C, l)))) ∙ sym (opened lifted m e);
         near_more = λ k. absurd (minus_above (gap x) (c - r) c d (above_of_le half (gap x) tt k));
         near_same = λ k. b ∙ ap (λ (n : ℕ). of_int binary64 (pos n)) (sym (half_next a c C l)) ∙ sym (opened half_up m e);
       }
     where
-      few : (r c p : ℕ) → c ≤ r * 2 → r < p → c - r < p
-      few r c p h k = omega arith
-
-      some : (r c : ℕ) → 0 < c → c ≤ r * 2 → 0 < r
-      some r c C h = omega arith
-
-      within : (p r a b c n : ℕ) → p + r ≡ a → r < c → n ≡ p + c → b ≡ a → n ≤ b → ⊥
-      within p r a b c n e l f g h = omega arith
-
-      beyond : (p r a b c n : ℕ) → p + r ≡ a → r < c → n ≡ p + c → b ≡ a → n < b → ⊥
-      beyond p r a b c n e l f g h = omega arith
-
       minus_above : (z : Float) (a c : ℕ) → HasValue z true a c → T (above z) → ⊥
       minus_above nan a c v h = v
       minus_above (inf s) a c v h = v
@@ -218,14 +185,8 @@ unfolding lt neg
 neg_above nan h = absurd h
 neg_above (inf true) h = tt
 neg_above (inf false) h = absurd h
-neg_above (fin true m e) h = lt→ltb (0 * 1 * down e) (m * up e * 1) (same (m * up e * 1) (0 * 1 * down e) (zero-mul (down e)) (ltb→lt 0 (m * up e * 1 + 0 * 1 * down e) h))
-  where
-    same : (a z : ℕ) → z ≡ 0 → 0 < a + z → z < a
-    same a z e h = omega arith
-neg_above (fin false m e) h = absurd (none (m * up e * 1) (0 * 1 * down e) (zero-mul (down e)) (ltb→lt (m * up e * 1) (0 * 1 * down e) h))
-  where
-    none : (a z : ℕ) → z ≡ 0 → a < z → ⊥
-    none a z e h = omega arith
+neg_above (fin true m e) h = lt→ltb (0 * 1 * down e) (m * up e * 1) (omega (arith, zero-mul (down e), ltb→lt 0 (m * up e * 1 + 0 * 1 * down e) h))
+neg_above (fin false m e) h = absurd (omega (arith, zero-mul (down e), ltb→lt (m * up e * 1) (0 * 1 * down e) h))
 
 -- neither above nor below zero
 pub unsigned_only : (P : Float → Type 0) → P nan → ((s : Bool) (e : ℤ) → P (fin s 0 e)) → (x : Float) → T (not (lt nought x)) → T (not (lt x nought)) → P x

@@ -59,11 +59,8 @@ within_le k (fin s m e) h = fin_le false m e false 1 (pos k) (le_trans (le_of_eq
 power_value : (f : Format) (k : ℕ) → k ≤ emax f → HasValue (round f false (2 ^ k) 1) false (2 ^ k) 1
 power_value f k h =
     round_exact f false (2 ^ k) 1 1 (k + low f) (lit< tt) (pow-lt {i = 0} {j = prec f} (lt_of_lt_of_le (lit< tt) (two f)))
-    (lt_of_le_of_lt (le_of_eq (one-mul (2 ^ (k + low f)))) (pow-lt (room k (low f) (emax f) h)))
+    (lt_of_le_of_lt (le_of_eq (one-mul (2 ^ (k + low f)))) (pow-lt (omega (arith, h))))
     (sym (mul-one (1 * 2 ^ (k + low f)) ∙ one-mul (2 ^ (k + low f)) ∙ pow-add 2 k (low f)))
-  where
-    room : (k l m : ℕ) → k ≤ m → k + l < l + suc m
-    room k l m h = omega arith
 
 value_within : (k : ℕ) (x y : Float) → Signed false x → HasValue y false (2 ^ k) 1 → T (le x y) → Within k x
 value_within k nan y s v h = s
@@ -98,16 +95,10 @@ unfolding sum
 sum_within f s a t b c k C K h l =
     let p : 2 ^ suc k * c ≡ 2 * (2 ^ k * c) = ap (λ (z : ℕ). z * c) (pow-succ' 2 k) ∙ mul_assoc 2 (2 ^ k) c in
     cond_within (suc k) (beq s t) (round f s (a + b) c) (cond (ltb a b) (round f t (b - a) c) (round f (s && ltb b a) (a - b) c))
-    (round_within f s (a + b) c (suc k) C K (both a b (2 ^ k * c) (2 ^ suc k * c) p h l))
+    (round_within f s (a + b) c (suc k) C K (omega (arith, p, h, l)))
     (cond_within (suc k) (ltb a b) (round f t (b - a) c) (round f (s && ltb b a) (a - b) c)
-    (round_within f t (b - a) c (suc k) C K (less b a (2 ^ k * c) (2 ^ suc k * c) p l))
-    (round_within f (s && ltb b a) (a - b) c (suc k) C K (less a b (2 ^ k * c) (2 ^ suc k * c) p h)))
-  where
-    both : (a b q p : ℕ) → p ≡ 2 * q → a ≤ q → b ≤ q → a + b ≤ p
-    both a b q p e h l = omega arith
-
-    less : (a b q p : ℕ) → p ≡ 2 * q → a ≤ q → a - b ≤ p
-    less a b q p e h = omega arith
+    (round_within f t (b - a) c (suc k) C K (omega (arith, p, l)))
+    (round_within f (s && ltb b a) (a - b) c (suc k) C K (omega (arith, p, h))))
 
 pub add_within : (f : Format) (x y : Float) (k : ℕ) → k < emax f → Within k x → Within k y → Within (suc k) (add f x y)
 unfolding add

@@ -17,8 +17,8 @@ pub record Narrowed (a r : ℕ) : Type 0 where
 unfoldable pub counted : ℕ → ℕ
 counted b = cond (nat_lt b (2 ^ 52)) b ((2 ^ 52 + b % 2 ^ 52) * 2 ^ (b / 2 ^ 52 - 1))
 
--- a bit pattern with the sign clear, below the infinity's, stands for m * 2 ^ e smallest values; m has 53 digits where e
--- is above 0
+-- a bit pattern with the sign clear, below the infinity's, stands for m * 2 ^ e smallest values; m has 53 digits where
+-- e is above 0
 pub record InUnits (b m e : ℕ) : Type 0 where
   pub value : m * 2 ^ e ≡ counted b
   pub most : m < 2 ^ 53

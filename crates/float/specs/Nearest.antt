@@ -1,7 +1,7 @@
 -- What rounding comes to, in whole numbers: a finite value of a format is a number of units of its smallest value
 -- (`in_units`). No contract cites this. `round_rounded` of proofs/Rounding.antt proves `Rounded` of what `round` gives,
--- in either format and of any fraction, and `sqrt_nearest` of proofs/Meaning.antt proves `RootRounded` of what `sqrt_of`
--- gives, of any value above zero. Definitions only.
+-- in either format and of any fraction, and `sqrt_nearest` of proofs/Meaning.antt proves `RootRounded` of what
+-- `sqrt_of` gives, of any value above zero. Definitions only.
 use Rattle.std.specs.Prelude.{◌≡◌, ℕ, suc, ◌+◌, ◌-◌, ◌*◌, ◌/◌, ◌%◌, ◌^◌, ◌<◌, ◌≤◌, Bool, false, cond, T, ◌⊎◌, ◌↔◌, Float}
 use Rattle.std.specs.Bool.{beq}
 use Rattle.std.specs.Float.{inf, Format}

@@ -63,6 +63,7 @@ fn shifted(m: u64, k: u64, n: u64) -> u64
     ensures { result ≡ m * 2 ^ k % n }
 {
     let mut r = m % n;
+    // The turns are only counted: there is nothing else to go over.
     for _ in 0..k / 11 {
         r = r * 2048 % n;
     }

@@ -63,7 +63,7 @@ pub fn to_whole(x: f64) -> usize
         } else if x < TWO_64 {
             std::num::truncating_f64_to_u64(x) as usize
         } else {
-            0xffff_ffff_ffff_ffff
+            usize::MAX
         }
     } else {
         0

@@ -2,7 +2,6 @@
 use Prim.Native.Nat.{ℕ}
 use mathlib.Core.Path.{refl, ◌∙◌}
 use mathlib.Core.List.{List, [], ◌++◌}
-use borrow.Author.Rules.{rules}
 use Rattle.format.specs.declared.text.Text.{Text}
 use Rattle.format.specs.Growing.{Grown}
 use Rattle.format.proofs.Appending.{appended_none, appended_more}
@@ -13,5 +12,3 @@ grown_none a = record { same_buffer = refl; as_long = refl; grown = appended_non
 pub grown_more : (a b c : Text) (s t : List ℕ) → Grown a s b → Grown b t c → Grown a (s ++ t) c
 grown_more a b c s t p q =
     record { same_buffer = q.same_buffer ∙ p.same_buffer; as_long = q.as_long ∙ p.as_long; grown = appended_more _ _ _ _ _ _ _ _ a.within p.grown q.grown }
-
-pub ruleset growing = (rules, grown_none, grown_more)

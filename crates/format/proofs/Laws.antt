@@ -1,20 +1,19 @@
 -- The laws that a proof's `search laws` goes by.
-use Prim.Native.Nat.{ℕ, zero, suc, ◌+◌, ◌/◌, ◌%◌, ◌≤◌, ◌<◌}
+use Prim.Native.Nat.{ℕ, ◌/◌, ◌%◌, ◌≤◌}
 use native.Mathlib.Omega.{arith}
 use mathlib.Core.Path.{◌≡◌, refl, sym, ap, ◌∙◌}
 use mathlib.Core.Bool.{true, false, and-false}
 use mathlib.Core.List.{List, ◌++◌}
 use lib.Dec.{leb, eqb}
 use lib.Ieee.{Float}
-use lib.ListN.{length, set, take, drop, take-append-drop}
+use lib.ListN.{length, take, drop, take-append-drop}
 use lib.Seq.{length-take-le}
 use borrow.Author.Rules.{rules}
 use borrow.Author.Tests.{leb-true, lt-leb}
-use Rattle.std.proofs.lemmas.List.{set-append_left}
 use Rattle.io.specs.Counts.{IsPrefixLen}
 use Rattle.lists.proofs.Every.{and_right}
 use Rattle.lists.specs.Fill.{fill}
-use Rattle.lists.proofs.Fill.{length_fill, fill_none, fill_turn0}
+use Rattle.lists.proofs.Fill.{fill_none, fill_turn0, fill_front}
 use Rattle.format.specs.Bytes.{bytes_ok, INPUT}
 
 -- an accepted recording has at most 4,096 parts
@@ -31,15 +30,7 @@ too_many n h = rw (lt-leb n 16384 (omega arith)) (and-false (eqb (n % 8) 0))
 pub counts : (r : ℕ) (out : List ℕ) → r ≤ length out → IsPrefixLen r out
 counts r out h = (h, sym (length-take-le r out h))
 
--- a row stored over the first part of a list is stored in the list
-fill_front : (xs ys : List Float) (f : ℕ → Float) (n : ℕ) → n ≤ length xs → fill xs 0 f n ++ ys ≡ fill (xs ++ ys) 0 f n
-unfolding fill
-fill_front xs ys f zero h = refl
-fill_front xs ys f (suc n) h =
-    let here : 0 + n < length (fill xs 0 f n) = rw (length_fill xs 0 f n) (omega arith) in
-    sym (set-append_left (fill xs 0 f n) ys (0 + n) (f n) here) ∙ ap (λ (l : List Float). set l (0 + n) (f n)) (fill_front xs ys f n (omega arith))
-
--- after the loop that stores it
+-- after the loop that stores a row in the first part of a list
 pub fill_part : (l cur : List Float) (f : ℕ → Float) (n i : ℕ) → n ≤ length l → length (take n l) ≤ i → i ≤ length (take n l) → cur ≡ fill (take n l) 0 f i
     → cur ++ drop n l ≡ fill l 0 f n
 fill_part l cur f n i h few many p =

@@ -1,6 +1,7 @@
 -- Reading an input to its end, a piece at a time: what one read means for the whole. What the reads answer is the
 -- reader's. Definitions only.
 use Rattle.std.specs.Prelude.{ℕ, zero, suc, ◌+◌, Bool, true, false, ltb, None, Some}
+use Rattle.std.specs.Option.{unwrap_or}
 use Rattle.std.specs.declared.option.Option.{Option}
 use Rattle.format.specs.declared.reads.Read.{Read}
 use Rattle.format.specs.declared.reads.Reading.{Reading}
@@ -42,3 +43,7 @@ end_of room there (More n) = room
 
 unfoldable pub count_of : Read → ℕ
 count_of read = end_of read.room read.there (reading_of read)
+
+-- How many bytes are there after a read, whatever it means for the input: a read that fails brings none.
+abbrev pub there_after : Read → ℕ
+there_after read = read.there + unwrap_or read.answer 0

@@ -43,6 +43,7 @@ pub fn samples(bytes: &[u8], out: &mut [f32]) -> usize
     ensures out_after { out.new ≡ fill out.old 0 (part_at bytes.now) (length bytes.now / 4) }
 {
     let n = bytes.len() / 4;
+    // By its number: of what iter_mut().zip lends nothing is known once it is back.
     for (i, x) in out[..n].iter_mut().enumerate() {
         *x = part(bytes, i);
     }

@@ -30,7 +30,7 @@ pub enum Reading {
 
 impl Read {
     ghost use Rattle.std.specs.Prelude.{◌≡◌, ◌-◌, ◌<◌, min, max, length};
-    ghost use Rattle.format.specs.Input.{reading_of, count_of};
+    ghost use Rattle.format.specs.Input.{reading_of, count_of, there_after};
 
     // Reads the next bytes behind those that are there: a piece, of one byte at least, as far as there is room.
     pub fn next<R: io::Read>(reader: &mut R, bytes: &mut [u8], there: usize, piece: usize) -> Read
@@ -64,7 +64,8 @@ impl Read {
 
     // How many bytes are there after it.
     pub fn came(self) -> usize
-        ensures { result ≤ self.room }
+        ensures value { result ≡ there_after self }
+        ensures within { result ≤ self.room }
     {
         self.there + self.answer.unwrap_or(0)
     }

@@ -20,7 +20,7 @@ use Rattle.gaps.specs.declared.pairs.Gaps.{Gaps}
 use Rattle.gaps.specs.declared.pairs.Pairs.{Pairs}
 use Rattle.gaps.specs.Inner.{pair_plus}
 use Rattle.gaps.specs.Pairs.{above, gaps_of, preceded, pair_at, lagged, products, c_over, pairs_of}
-use Rattle.gaps.proofs.Counted.{count_yes, count_no, count_done, picked_yes, picked_no}
+use Rattle.gaps.proofs.Counted.{count_yes, count_no, picked_yes, picked_no}
 
 -- ---- the tests
 
@@ -45,13 +45,13 @@ module _ (s : ℕ → Bool) where
   unfolding pair_at
   pair_later b e = preceded_there b (and_left (preceded s b) (s b) e)
 
--- ---- after the loop that counts the gap blocks and the hot ones among them
+-- ---- how many gap blocks there are, and how many of them are hot
 
-pub gaps_done : (gap : ℕ → Bool) (z : ℕ → Complex) (ref : Float) (n k m h : ℕ)
-    → m ≡ count_to gap n → h ≡ count_to (above gap z (bits 0x4010_0000_0000_0000 ⊗ ref)) k → k ≤ n → n ≤ k
+pub gaps_are : (gap : ℕ → Bool) (z : ℕ → Complex) (ref : Float) (n m h : ℕ)
+    → m ≡ count_to gap n → h ≡ count_to (above gap z (bits 0x4010_0000_0000_0000 ⊗ ref)) n
     → ◌≡◌ {A = Gaps} (record { blocks = m; hot = h }) (gaps_of gap z ref n)
 unfolding gaps_of
-gaps_done gap z ref n k m h p q l g = rw (hot_factor_bits, p, count_done _ n k h q l g)
+gaps_are gap z ref n m h p q = rw (hot_factor_bits, p, q)
 
 -- ---- one more product
 

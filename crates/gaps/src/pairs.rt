@@ -10,7 +10,7 @@ ghost use Rattle.gaps.specs.Pairs.{above, preceded, followed, pair_at, in_pair, 
 use classes::{BlockClass, count_class, is_class};
 use complex::{Complex, get};
 use constants::{HOT_FACTOR, PAIR_FACTOR};
-use prepared::classed::Classed;
+use prepared::classed::ClassedMeans;
 
 // How many gap blocks there are, and how many of them are hot.
 #[derive(Clone, Copy)]
@@ -47,81 +47,93 @@ impl Pairs {
     }
 }
 
-// Whether block b is a gap block whose power is above a level.
-fn above(held: &Classed, level: f64, b: usize) -> bool
-    requires { b < held.now.grid.blocks }
-    ensures { result ≡ above (of_class held.now.codes.now Gap) (z_at held.now.means.now) level b }
-{
-    is_class(held.codes, b, BlockClass::Gap) && get(held.means, b).norm_sqr() > level
+// Classed blocks at a level of power. That b is one of them stands in a clause of each method: it is said of the
+// argument.
+#[derive(Clone, Copy)]
+pub struct AtLevel<'a> {
+    pub held: ClassedMeans<'a>,
+    pub level: f64,
 }
 
-// The same of the block before block b, where there is one ..
-fn preceded(held: &Classed, level: f64, b: usize) -> bool
-    requires { b < held.now.grid.blocks }
-    ensures { result ≡ preceded (above (of_class held.now.codes.now Gap) (z_at held.now.means.now) level) b }
-{
-    b > 0 && above(held, level, b - 1)
-}
+impl<'a> AtLevel<'a> {
+    // Whether block b is a gap block whose power is above the level.
+    fn above(&self, b: usize) -> bool
+        requires { b < length self.now.held.codes.now }
+        ensures { result ≡ above (of_class self.now.held.codes.now Gap) (z_at self.now.held.means.now) self.now.level b }
+    {
+        is_class(self.held.codes, b, BlockClass::Gap)
+            && get(self.held.means, b).norm_sqr() > self.level
+    }
 
-// .. and of the one after it.
-fn followed(held: &Classed, level: f64, b: usize) -> bool
-    requires { b < held.now.grid.blocks }
-    ensures { result ≡ followed (above (of_class held.now.codes.now Gap) (z_at held.now.means.now) level) held.now.grid.blocks b }
-{
-    b + 1 < held.grid.blocks && above(held, level, b + 1)
-}
+    // The same of the block before block b, where there is one. This and the next are two lines and not one function
+    // for both sides: which side is asked is then in the name, as in the definitions.
+    fn preceded(&self, b: usize) -> bool
+        requires { b < length self.now.held.codes.now }
+        ensures { result ≡ preceded (above (of_class self.now.held.codes.now Gap) (z_at self.now.held.means.now) self.now.level) b }
+    {
+        b > 0 && self.above(b - 1)
+    }
 
-// Whether a pair ends at block b. Rust: the test of the loop over `gap_idx.windows(2)`.
-fn pair_at(held: &Classed, level: f64, b: usize) -> bool
-    requires { b < held.now.grid.blocks }
-    ensures { result ≡ pair_at (above (of_class held.now.codes.now Gap) (z_at held.now.means.now) level) b }
-{
-    preceded(held, level, b) && above(held, level, b)
-}
+    // The same of the block after it.
+    fn followed(&self, b: usize) -> bool
+        requires { b < length self.now.held.codes.now }
+        ensures { result ≡ followed (above (of_class self.now.held.codes.now Gap) (z_at self.now.held.means.now) self.now.level) (length self.now.held.codes.now) b }
+    {
+        b + 1 < self.held.codes.len() && self.above(b + 1)
+    }
 
-// Whether block b is in a pair. Rust: what goes into `pair_blocks`.
-pub fn in_pair(held: &Classed, level: f64, b: usize) -> bool
-    requires { b < held.now.grid.blocks }
-    ensures { result ≡ in_pair (above (of_class held.now.codes.now Gap) (z_at held.now.means.now) level) held.now.grid.blocks b }
-{
-    above(held, level, b) && (preceded(held, level, b) || followed(held, level, b))
+    // Whether a pair ends at block b. Rust: the test of the loop over `gap_idx.windows(2)`.
+    fn pair_at(&self, b: usize) -> bool
+        requires { b < length self.now.held.codes.now }
+        ensures { result ≡ pair_at (above (of_class self.now.held.codes.now Gap) (z_at self.now.held.means.now) self.now.level) b }
+    {
+        self.preceded(b) && self.above(b)
+    }
+
+    // Whether block b is in a pair. Rust: what goes into `pair_blocks`.
+    pub fn in_pair(&self, b: usize) -> bool
+        requires { b < length self.now.held.codes.now }
+        ensures { result ≡ in_pair (above (of_class self.now.held.codes.now Gap) (z_at self.now.held.means.now) self.now.level) (length self.now.held.codes.now) b }
+    {
+        self.above(b) && (self.preceded(b) || self.followed(b))
+    }
 }
 
 // The product of the pair that ends at block b.
-fn lagged(held: &Classed, b: usize) -> Complex
+fn lagged(held: &ClassedMeans, b: usize) -> Complex
     requires first { 1 ≤ b }
-    requires last { b < held.now.grid.blocks }
+    requires last { b < length held.now.codes.now }
     ensures { result ≡ lagged (z_at held.now.means.now) b }
 {
     get(held.means, b).mul(get(held.means, b - 1).conj())
 }
 
 // Rust: `gap_idx.len()` and `hot`.
-pub fn count_gaps(held: &Classed, reference: f64) -> Gaps
-    ensures { result ≡ gaps_of (of_class held.now.codes.now Gap) (z_at held.now.means.now) reference held.now.grid.blocks }
+pub fn count_gaps(held: &ClassedMeans, reference: f64) -> Gaps
+    ensures { result ≡ gaps_of (of_class held.now.codes.now Gap) (z_at held.now.means.now) reference (length held.now.codes.now) }
 {
-    let level = HOT_FACTOR * reference;
-    // As `filter(..).count()` over the blocks it was tried, and the count's proof did not close.
-    let mut hot: usize = 0;
-    for b in 0..held.grid.blocks {
-        if above(held, level, b) {
-            hot += 1;
-        }
-    }
+    let hot = AtLevel {
+        held: *held,
+        level: HOT_FACTOR * reference,
+    };
     Gaps {
         blocks: count_class(held.codes, BlockClass::Gap),
-        hot,
+        hot: (0..held.codes.len()).filter(|b| hot.above(*b)).count(),
     }
 }
 
 // Rust: the loop over `gap_idx.windows(2)`.
-pub fn sum_pairs(held: &Classed, reference: f64) -> Pairs
-    ensures { result ≡ pairs_of (strong (of_class held.now.codes.now Gap) (z_at held.now.means.now) reference) (z_at held.now.means.now) held.now.grid.blocks }
+pub fn sum_pairs(held: &ClassedMeans, reference: f64) -> Pairs
+    ensures { result ≡ pairs_of (strong (of_class held.now.codes.now Gap) (z_at held.now.means.now) reference) (z_at held.now.means.now) (length held.now.codes.now) }
 {
-    let level = PAIR_FACTOR * reference;
+    let strong = AtLevel {
+        held: *held,
+        level: PAIR_FACTOR * reference,
+    };
+    // A loop and no `fold`: its test says that b has a block before it, and its invariant that few pairs are found yet.
     let mut found = Pairs::NO_PAIRS;
-    for b in 0..held.grid.blocks {
-        if pair_at(held, level, b) {
+    for b in 0..held.codes.len() {
+        if strong.pair_at(b) {
             found = found.with(lagged(held, b));
         }
     }

@@ -21,19 +21,21 @@ use trig::Sines;
 // The powers of the gap blocks at cyc cycles a sample, one after the other; the answer is how many they are. Rust: the
 // loop over gap_idx that fills `side`. It is not `gather` with another power: where a block starts is added up here,
 // with no product, also over the blocks that are passed over.
-fn gap_powers(held: &Classed, cyc: f64, out: &mut [f64], sine: &Sines) -> usize
-    requires { held.now.grid.blocks ≤ length out.old }
-    ensures few { result ≤ held.now.grid.blocks }
-    ensures kept { (result ≡ count_to (of_class held.now.codes.now Gap) held.now.grid.blocks)
-        × (out.new ≡ keep out.old 0 (of_class held.now.codes.now Gap) (block_power (block_mean held.now.grid.samples.iq.now cyc held.now.grid.window)) held.now.grid.blocks) }
+fn gap_powers(classed: &Classed, cyc: f64, out: &mut [f64], sine: &Sines) -> usize
+    requires { classed.now.grid.blocks.count ≤ length out.old }
+    ensures few { result ≤ classed.now.grid.blocks.count }
+    ensures kept { (result ≡ count_to (of_class classed.now.held.codes.now Gap) classed.now.grid.blocks.count)
+        × (out.new ≡ keep out.old 0 (of_class classed.now.held.codes.now Gap) (block_power (block_mean classed.now.grid.samples.iq.now cyc classed.now.grid.blocks.window)) classed.now.grid.blocks.count) }
 {
+    let samples = classed.grid.samples;
+    let len = classed.grid.blocks.window;
     let gap = f64::from(BlockClass::Gap);
-    let len = held.grid.window;
+    // Both by hand: n is the answer, as in `gather`, and no turn multiplies for `from`.
     let mut n: usize = 0;
     let mut from: usize = 0;
-    for x in held.codes {
+    for x in classed.held.codes {
         if *x == gap {
-            out[n] = mean_from(&held.grid.samples, cyc, from, len, sine).norm_sqr();
+            out[n] = mean_from(&samples, cyc, from, len, sine).norm_sqr();
             n += 1;
         }
         from += len;
@@ -42,27 +44,27 @@ fn gap_powers(held: &Classed, cyc: f64, out: &mut [f64], sine: &Sines) -> usize
 }
 
 // The median of the powers of the gap blocks to both sides of the carrier. Rust: `side`.
-fn side_level(held: &Classed, out: &mut [f64], sine: &Sines) -> f64
-    requires { 2 * held.now.grid.blocks ≤ length out.old }
-    ensures { result ≡ median_of (side_of (mean_at held.now.grid.samples.iq.now held.now.grid.rate.hz) held.now.grid.carrier (of_class held.now.codes.now Gap) held.now.grid.blocks) }
+fn side_level(classed: &Classed, out: &mut [f64], sine: &Sines) -> f64
+    requires { 2 * classed.now.grid.blocks.count ≤ length out.old }
+    ensures { result ≡ median_of (side_of (mean_at classed.now.grid.samples.iq.now classed.now.grid.blocks.fs) classed.now.grid.carrier (of_class classed.now.held.codes.now Gap) classed.now.grid.blocks.count) }
 {
-    let carrier = held.grid.carrier;
-    let fs = held.grid.rate.hz;
+    let carrier = classed.grid.carrier;
+    let fs = classed.grid.blocks.fs;
     let under = (carrier + -REFERENCE_OFFSET_HZ) / fs;
     let over = (carrier + REFERENCE_OFFSET_HZ) / fs;
-    let n = gap_powers(held, under, out, sine);
-    let m = gap_powers(held, over, &mut out[n..], sine);
+    let n = gap_powers(classed, under, out, sine);
+    let m = gap_powers(classed, over, &mut out[n..], sine);
     percentile(&out[..n + m], 0.5).unwrap_or(0.0)
 }
 
 // Rust: `reference` in second_carrier_evidence.
-pub fn find_reference(held: &Classed, out: &mut [f64], sine: &Sines) -> f64
-    requires { 2 * held.now.grid.blocks ≤ length out.old }
-    ensures { result ≡ reference_by (mean_at held.now.grid.samples.iq.now held.now.grid.rate.hz) held.now.grid.carrier (of_class held.now.codes.now Gap)
-        (of_class held.now.codes.now Interior) (z_at held.now.means.now) held.now.grid.blocks }
+pub fn find_reference(classed: &Classed, out: &mut [f64], sine: &Sines) -> f64
+    requires { 2 * classed.now.grid.blocks.count ≤ length out.old }
+    ensures { result ≡ reference_by (mean_at classed.now.grid.samples.iq.now classed.now.grid.blocks.fs) classed.now.grid.carrier (of_class classed.now.held.codes.now Gap)
+        (of_class classed.now.held.codes.now Interior) (z_at classed.now.held.means.now) classed.now.grid.blocks.count }
 {
-    let side = side_level(held, out, sine);
-    let interior = level_of(held, BlockClass::Interior, 0.5, out);
+    let side = side_level(classed, out, sine);
+    let interior = level_of(&classed.held, BlockClass::Interior, 0.5, out);
     let floor = 1e-12 * interior.value.unwrap_or(0.0);
     float::max(float::max(side, floor), MIN_POSITIVE)
 }

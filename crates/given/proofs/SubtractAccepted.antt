@@ -1,5 +1,5 @@
 -- `subtract`: what it goes on with where every answer is yes, and what its promise says. Assumes nothing.
-use Prim.Native.Nat.{ℕ, ◌*◌, ◌≤◌}
+use Prim.Native.Nat.{ℕ, ◌≤◌}
 use mathlib.Core.Path.{◌≡◌, refl}
 use mathlib.Core.Bool.{true, false}
 use mathlib.Core.List.{List, Memᴰ}
@@ -7,28 +7,27 @@ use lib.ListN.{length}
 use lib.Ieee.{Float}
 use Rattle.row.specs.Window.{rate_ok}
 use Rattle.row.specs.Samples.{all_finite}
-use Rattle.fits.specs.List.{FIT}
 use Rattle.std.specs.Prelude.{⊤, Result, Ok, Err}
 use Rattle.questions.specs.declared.refusals.Refusal.{Refusal}
 use Rattle.questions.specs.Answers.{refused}
 use Rattle.questions.specs.Questions.{first_no, ask, count_ok, estimate_ok}
 use Rattle.given.specs.Removal.{subtract_questions, subtract_rule, subtract_outcome}
 use Rattle.questions.proofs.FirstNo.{yes_at}
-use Rattle.questions.proofs.Given.{estimate_sized}
+use Rattle.questions.proofs.Given.{SizedEstimate, estimate_sized}
 use Rattle.questions.proofs.Accepted.{recording_is}
 use Rattle.questions.proofs.Calls.{refused_asked, never_refused}
 
-pub record SubtractAccepted (buf fits : List Float) (fit_count : ℕ) : Type 0 where
+pub record SubtractAccepted (buf : List Float) (hz step : Float) (elements : List Float) (element_count : ℕ) (fits : List Float) (fit_count : ℕ) : Type 0 where
   pub short : length buf ≤ 2097152
-  pub fit_room : FIT * fit_count ≤ length fits
+  pub given : SizedEstimate hz step elements element_count fits fit_count
 
 pub subtract_accepted : (buf : List Float) (fs hz step : Float) (elements : List Float) (element_count : ℕ) (fits : List Float) (fit_count : ℕ)
-    → first_no (subtract_questions buf fs hz step elements element_count fits fit_count) ≡ 0 → SubtractAccepted buf fits fit_count
+    → first_no (subtract_questions buf fs hz step elements element_count fits fit_count) ≡ 0 → SubtractAccepted buf hz step elements element_count fits fit_count
 subtract_accepted buf fs hz step elements element_count fits fit_count all =
     let yes = yes_at (subtract_questions buf fs hz step elements element_count fits fit_count) refl all in
     record {
       short = (recording_is buf (yes 1) (yes 2)).short;
-      fit_room = (estimate_sized hz step elements element_count fits fit_count (yes 3)).fit_room;
+      given = estimate_sized hz step elements element_count fits fit_count (yes 3);
     }
 
 -- ---- what its promise says of a refusal, and of an accepted call

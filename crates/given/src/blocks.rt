@@ -5,8 +5,6 @@ ghost use Rattle.questions.specs.Questions.{first_no};
 ghost use Rattle.given.specs.Blocks.{classes_questions, classes_outcome, classes_rule};
 
 use classes::{ClassCounts, classify_blocks, count_classes};
-use elements::Elements;
-use fits::Fits;
 use questions::{
     GivenEstimate, Refusal, ask, class_places_ok, count_ok, estimate_ok, window_blocks,
 };
@@ -49,16 +47,14 @@ pub fn block_classes(
 {
     accept_classes(iq_len, fs, given, classes.len())?;
     let blocks = window_blocks(iq_len, fs);
-    let elements = Elements {
-        numbers: given.elements,
-        count: given.element_count,
-    };
-    let fits = Fits {
-        numbers: given.fits,
-        count: given.fit_count,
-    };
-    let rate = SampleRate::new(fs);
-    classify_blocks(rate, iq_len / 2, &elements, &fits, &mut classes[0..blocks]);
+    let sender = given.sender();
+    classify_blocks(
+        SampleRate::new(fs),
+        iq_len / 2,
+        &sender.elements,
+        &sender.fits,
+        &mut classes[0..blocks],
+    );
     let counts = count_classes(&classes[0..blocks]);
     Ok(BlockClasses { blocks, counts })
 }

@@ -3,8 +3,6 @@ ghost use Rattle.std.specs.Prelude.{◌≡◌};
 ghost use Rattle.row.specs.Samples.{Singles};
 ghost use Rattle.given.specs.Evidence.{evidence_outcome, evidence_rule};
 
-use elements::Elements;
-use fits::Fits;
 use measure::SecondCarrierEvidence;
 use questions::{GivenEstimate, Refusal, accept_measure};
 use row::Recording;
@@ -23,22 +21,7 @@ pub fn second_carrier_evidence(
 {
     accept_measure(iq, fs, given, work.len())?;
     let recording = Recording::new(iq, fs);
-    let elements = Elements {
-        numbers: given.elements,
-        count: given.element_count,
-    };
-    let fits = Fits {
-        numbers: given.fits,
-        count: given.fit_count,
-    };
     let sine = Sines::new();
-    let evidence = measure::second_carrier_evidence(
-        &recording,
-        given.carrier_hz,
-        &elements,
-        &fits,
-        work,
-        &sine,
-    );
+    let evidence = measure::second_carrier_evidence(&recording, &given.sender(), work, &sine);
     Ok(evidence)
 }

@@ -4,7 +4,6 @@ ghost use Rattle.questions.specs.Refusals.{no_of};
 ghost use Rattle.questions.specs.Questions.{first_no};
 ghost use Rattle.given.specs.Removal.{subtract_questions, subtract_outcome, subtract_rule};
 
-use fits::Fits;
 use questions::{GivenEstimate, Refusal, accept_recording, ask, estimate_ok};
 use trig::Sines;
 
@@ -25,10 +24,7 @@ pub fn subtract(buf: &mut [f32], fs: f64, given: &GivenEstimate) -> Result<(), R
 {
     accept_subtract(buf, fs, given)?;
     let sine = Sines::new();
-    let fits = Fits {
-        numbers: given.fits,
-        count: given.fit_count,
-    };
+    let fits = given.sender().fits;
     synth::subtract(buf, fs, given.carrier_hz, &fits, &sine);
     Ok(())
 }

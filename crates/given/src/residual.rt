@@ -3,8 +3,6 @@ ghost use Rattle.std.specs.Prelude.{◌≡◌};
 ghost use Rattle.row.specs.Samples.{Singles};
 ghost use Rattle.given.specs.Residual.{residual_outcome, residual_rule};
 
-use elements::Elements;
-use fits::Fits;
 use measure::ResidualCheck;
 use questions::{GivenEstimate, Refusal, accept_measure};
 use row::Recording;
@@ -25,22 +23,7 @@ pub fn residual_check(
 {
     accept_measure(iq, fs, given, work.len())?;
     let recording = Recording::new(iq, fs);
-    let elements = Elements {
-        numbers: given.elements,
-        count: given.element_count,
-    };
-    let fits = Fits {
-        numbers: given.fits,
-        count: given.fit_count,
-    };
     let sine = Sines::new();
-    let check = measure::residual_check(
-        &recording,
-        given.carrier_hz,
-        &elements,
-        &fits,
-        work,
-        &sine,
-    );
+    let check = measure::residual_check(&recording, &given.sender(), work, &sine);
     Ok(check)
 }

@@ -39,7 +39,8 @@ pub struct Weighed {
     pub weight: f64,
 }
 
-// Rust: the loop over the samples in `fit_elements`, whose k is i0 + j.
+// Rust: the loop over the samples in `fit_elements`, whose k is i0 + j. It goes over numbers: the sample's number j
+// goes into its Hann weight, and the samples past those that are kept lie in no slice.
 pub fn weigh(kept: &Kept, slope: f64, reference: f64, sine: &Sines) -> Weighed
     ensures { let s = kept.now.stretch in (result.sum ≡ gain_sum s.samples.iq.now s.cyc s.i0 s.len slope reference)
         × (result.weight ≡ hann_sum s.len) }

@@ -1,7 +1,7 @@
 // The derotated samples of a stretch, kept in a lent slice: slope and gain both read them, and to read one costs less
 // than to derotate it again. A slice too short for all of them keeps the first ones, and the others are derotated where
 // they are read.
-ghost use Rattle.std.specs.Prelude.{◌≡◌, ◌+◌, ◌*◌, ◌/◌, ◌≤◌, ◌<◌, length};
+ghost use Rattle.std.specs.Prelude.{◌≡◌, ◌+◌, ◌*◌, ◌/◌, ◌≤◌, ◌<◌, min, length};
 ghost use Rattle.row.specs.Blocks.{derot};
 ghost use Rattle.interiors.specs.Inner.{Derotated};
 
@@ -14,14 +14,14 @@ use trig::Sines;
 pub struct Kept<'a> {
     pub stretch: Stretch<'a>,
     pub numbers: &'a [f64],
-    pub ghost no_more: { length numbers.now / 2 ≤ stretch.len },
     pub ghost first_ones: { Derotated stretch.samples.iq.now stretch.cyc stretch.i0 0 (length numbers.now / 2) numbers.now },
 }
 
 impl<'a> Kept<'a> {
     // As many samples as have room.
     pub fn new(stretch: Stretch<'a>, room: &'a mut [f64], sine: &Sines) -> Kept<'a>
-        ensures { result.stretch ≡ stretch.entry }
+        ensures same_stretch { result.stretch ≡ stretch.entry }
+        ensures count { length result.numbers.now / 2 ≡ min stretch.entry.len (length room.old / 2) }
     {
         let count = stretch.len.min(room.len() / 2);
         let numbers = &mut room[..2 * count];
@@ -36,20 +36,21 @@ impl<'a> Kept<'a> {
         self.numbers.len() / 2
     }
 
-    // Sample j of the stretch, derotated.
+    // Sample j from the start of the stretch on, derotated; it may lie past the end of the stretch.
     pub fn derotated(&self, j: usize, sine: &Sines) -> Complex
-        requires { j < self.now.stretch.len }
+        requires { 2 * (self.now.stretch.i0 + j) + 1 < length self.now.stretch.samples.iq.now }
         ensures { let s = self.now.stretch in result ≡ derot s.samples.iq.now s.cyc (s.i0 + j) }
     {
         if j < self.count() {
             return complex::get(self.numbers, j);
         }
-        self.stretch.derotated(j, sine)
+        let s = &self.stretch;
+        row::derotated(&s.samples, s.cyc, s.i0 + j, sine)
     }
 }
 
 // The first samples of a stretch fill the slice.
-fn derotate(stretch: &Stretch, numbers: &mut [f64], sine: &Sines)
+pub fn derotate(stretch: &Stretch, numbers: &mut [f64], sine: &Sines)
     requires { length numbers.old / 2 ≤ stretch.now.len }
     ensures { let s = stretch.now in Derotated s.samples.iq.now s.cyc s.i0 0 (length numbers.new / 2) numbers.new }
 {

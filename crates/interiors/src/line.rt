@@ -4,6 +4,15 @@ ghost use Rattle.lists.specs.Sums.{total};
 ghost use Rattle.interiors.specs.Line.{time_of, weighted, moment, line_slope};
 ghost use Rattle.interiors.specs.Inner.{phase_in, weight_in};
 
+// Rust: `t` in `fit_elements`, of block b of an interior that begins at i0.
+pub fn time_of(i0: usize, block: usize, b: usize) -> f64
+    requires block_bound { i0 + b * block ≤ 2 ^ 20 }
+    requires block_bound_2 { block ≤ 2 ^ 20 }
+    ensures { result ≡ time_of i0 block b }
+{
+    row::centre(i0 + b * block, block)
+}
+
 // The points of the blocks of an interior that begins at i0. Point b is the pair (phase, weight) at place b of a lent
 // slice, where a row of complex numbers has its number b; its time is computed.
 #[derive(Clone, Copy)]
@@ -31,12 +40,12 @@ pub struct Moments {
 }
 
 impl<'a> Points<'a> {
-    // Rust: `t` in `fit_elements`, of point b.
+    // The time of point b.
     fn time(&self, b: usize) -> f64
         requires { b < length self.now.numbers.now / 2 }
         ensures { result ≡ time_of self.now.i0 self.now.block b }
     {
-        row::centre(self.i0 + b * self.block, self.block)
+        time_of(self.i0, self.block, b)
     }
 
     fn sums(&self) -> Sums

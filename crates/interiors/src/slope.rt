@@ -65,20 +65,23 @@ fn unwrap_phase(kept: &Kept, block: usize, points: &mut [f64], sine: &Sines)
     }
 }
 
-// Rust: `slope` in `fit_elements`. The points have a pair of numbers for each block. Fewer than two points need no
-// work: their slope is 0.
+// Rust: `slope` in `fit_elements`. The points go to the start of a lent slice, a pair of numbers for each block. Fewer
+// than two points need no work: their slope is 0.
 pub fn phase_slope(kept: &Kept, block: usize, points: &mut [f64], sine: &Sines) -> f64
-    requires { length points.old ≡ 2 * (kept.now.stretch.len / block) }
+    requires le_block { 1 ≤ block }
+    requires block_in_bounds { 2 * (kept.now.stretch.len / block) ≤ length points.old }
     ensures { let s = kept.now.stretch in result ≡ slope_of s.samples.iq.now s.cyc s.i0 s.len block }
 {
-    if points.len() / 2 < 2 {
+    let n = kept.stretch.len / block;
+    if n < 2 {
         return 0.0;
     }
-    unwrap_phase(kept, block, points, sine);
-    let points = Points {
-        numbers: points,
+    let own = &mut points[..2 * n];
+    unwrap_phase(kept, block, own, sine);
+    let line = Points {
+        numbers: own,
         i0: kept.stretch.i0,
         block,
     };
-    points.slope()
+    line.slope()
 }

@@ -1,17 +1,16 @@
 -- The key lines, one for each element that a list holds: one more of them, and the room for it. Assumes nothing.
-use Prim.Native.Nat.{ℕ, zero, suc, ◌+◌, ◌*◌, ◌≤◌, ◌<◌}
+use Prim.Native.Nat.{ℕ, zero, suc, ◌+◌, ◌≤◌, ◌<◌}
 use native.Mathlib.Omega.{arith}
 use native.Mathlib.Numerals.{add-one}
 use native.Mathlib.Nat.{eq-or-lt_of_le, le_of_suc-le-suc}
 use mathlib.Core.Path.{◌≡◌, refl, sym, ap, ◌∙◌, subst}
 use mathlib.Core.Logic.{⊎_elim}
 use mathlib.Core.List.{List, [], ◌∷◌, ◌++◌, append_assoc, append-nil}
-use lib.Ieee.{Float, nan}
-use lib.ListN.{length, get_or, take, drop, length-append, length-drop, get_or-append}
-use lib.Seq.{length-take-le, drop_at, drop-drop, get_or-drop, get_or-take}
+use lib.Ieee.{Float}
+use lib.ListN.{length, length-append}
 use Rattle.lists.specs.Firsts.{firsts}
 use Rattle.elements.specs.declared.element.KeyedElement.{KeyedElement}
-use Rattle.elements.specs.Element.{ELEMENT, element_at, elements_in}
+use Rattle.elements.specs.Element.{element_at, elements_in}
 use Rattle.format.specs.declared.text.Text.{Text}
 use Rattle.format.specs.Growing.{Grown}
 use Rattle.format.proofs.Growing.{grown_none, grown_more}
@@ -29,32 +28,6 @@ keys_one e = append-nil (key_line e)
 keys_more : (l : List Float) (p : ℕ) → key_lines (elements_in l (suc p)) ≡ key_lines (elements_in l p) ++ key_line (element_at l p)
 unfolding elements_in firsts
 keys_more l p = keys_both (firsts (element_at l) p) (element_at l p ∷ []) ∙ ap (λ (t : List ℕ). key_lines (firsts (element_at l) p) ++ t) (keys_one (element_at l p))
-
--- ---- the element whose numbers come next in a list of n places, behind the k that came
-
-module _ (l : List Float) (n k : ℕ) (x after : List Float) (places : ELEMENT * n ≤ length l) (size : length x ≡ ELEMENT) (come : drop (ELEMENT * k) (take (ELEMENT * n) l) ≡ x ++ after) where
-  pub one_here : k < n
-  one_here =
-      let all = length-take-le (ELEMENT * n) l places in
-      let left = length-drop (ELEMENT * k) (take (ELEMENT * n) l) in
-      let both = length-append x after in
-      let same = ap length come in
-      omega arith
-
-  pub then_rest : after ≡ drop (ELEMENT * (k + 1)) (take (ELEMENT * n) l)
-  then_rest =
-      let sums : ELEMENT * k + ELEMENT ≡ ELEMENT * (k + 1) = omega arith in
-      sym (drop_at x after ELEMENT size) ∙ ap (drop ELEMENT) (sym come) ∙ drop-drop ELEMENT (ELEMENT * k) (take (ELEMENT * n) l)
-      ∙ ap (λ (j : ℕ). drop j (take (ELEMENT * n) l)) sums
-
-  number_is : (i : ℕ) → i < ELEMENT → get_or x i nan ≡ get_or l (ELEMENT * k + i) nan
-  number_is i h =
-      let here = one_here in
-      sym (get_or-append x after nan i (omega arith)) ∙ ap (λ (m : List Float). get_or m i nan) (sym come) ∙ get_or-drop (ELEMENT * k) (take (ELEMENT * n) l) i nan
-      ∙ get_or-take (ELEMENT * n) l (ELEMENT * k + i) nan (omega arith)
-
-  pub element_is : element_at x 0 ≡ element_at l k
-  element_is = let first : ELEMENT * k + 0 ≡ ELEMENT * k = omega arith in rw (number_is 0 (omega arith), number_is 1 (omega arith), number_is 2 (omega arith), number_is 3 (omega arith), first)
 
 -- ---- a turn of the loop
 

@@ -7,7 +7,7 @@ ghost use Rattle.format.specs.Growing.{HasRoom, Grown};
 ghost use Rattle.lines.specs.Lines.{size_line, keys_line, air_line, blocks_line, key_line, key_lines, hypothesis_line, buffer_line, count_lines, run_lines};
 
 use classes::ClassCounts;
-use elements::{ELEMENT, Found, KeyedElement, element_at};
+use elements::{Elements, Found, KeyedElement, element_at};
 use engine::RunFigures;
 use float::whole::to_whole;
 use format::Text;
@@ -62,13 +62,12 @@ fn key_line(out: &mut Text<'_>, e: KeyedElement)
     out.line(b"(key", &[to_whole(e.up), to_whole(e.down)]);
 }
 
-// A line for each of the first `listed` elements.
-fn key_lines(out: &mut Text<'_>, elements: &[f64], listed: usize)
-    requires listed_in_bounds { ELEMENT * listed ≤ length elements.now }
-    requires listed_in_bounds_2 { HasRoom out.old (key_lines (elements_in elements.now listed)) }
-    ensures { Grown out.old (key_lines (elements_in elements.now listed)) out.new }
+// A line for each element.
+fn key_lines(out: &mut Text<'_>, elements: &Elements)
+    requires { HasRoom out.old (key_lines (elements_in elements.now.numbers.now elements.now.count)) }
+    ensures { Grown out.old (key_lines (elements_in elements.now.numbers.now elements.now.count)) out.new }
 {
-    for place in elements[..ELEMENT * listed].chunks_exact(ELEMENT) {
+    for place in elements.each() {
         key_line(out, element_at(place, 0));
     }
 }
@@ -94,16 +93,18 @@ fn buffer_line(taken: bool) -> &'static [u8]
     }
 }
 
-// What the run answers and lists, line by line.
+// What the run answers and lists, line by line. The list is lent flat, since f says how many elements it has: a list
+// with its count would ask for one more clause, that both counts are the same.
 #[tactic(auto, using(crate::proofs::Lengths::run_length))]
 pub fn run_lines(out: &mut Text<'_>, f: RunFigures, elements: &[f64])
     requires listed_in_bounds { ELEMENT * f.estimate.found.listed ≤ length elements.now }
     requires listed_in_bounds_2 { HasRoom out.old (run_lines f (elements_in elements.now f.estimate.found.listed)) }
     ensures { Grown out.old (run_lines f (elements_in elements.now f.estimate.found.listed)) out.new }
 {
+    let listed = Elements::new(elements, f.estimate.found.listed);
     out.append(b"(run 0\n");
     count_lines(out, f);
-    key_lines(out, elements, f.estimate.found.listed);
+    key_lines(out, &listed);
     out.append(hypothesis_line(f.hypothesis));
     out.append(buffer_line(f.taken));
 }

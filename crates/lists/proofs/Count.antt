@@ -40,10 +40,7 @@ count_apart f g h (suc n) e = omega (arith, e n, count_apart f g h n e)
 -- one that is counted is there
 pub count_some : (f : ℕ → Bool) (n : ℕ) → 0 < count_to f n → (i : ℕ) × (i < n) × (f i ≡ true)
 unfolding count_to
-count_some f zero h = absurd (never h)
-  where
-    never : 0 < 0 → ⊥
-    never h = omega arith
+count_some f zero h = absurd (omega (arith, h))
 count_some f (suc n) h = go (f n) refl (count_some f n) h
   where
     go : (a : Bool) → f n ≡ a → (0 < count_to f n → (i : ℕ) × (i < n) × (f i ≡ true)) → 0 < count_to f n + bit a → (i : ℕ) × (i < suc n) × (f i ≡ true)

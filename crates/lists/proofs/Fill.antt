@@ -1,13 +1,14 @@
 -- A row stored in a list: the loop that stores it, and what is read back.
-use Prim.Native.Nat.{ℕ, zero, suc, ◌+◌, ◌<◌, ◌≤◌}
+use Prim.Native.Nat.{ℕ, zero, suc, ◌+◌, ◌-◌, ◌<◌, ◌≤◌}
 use native.Mathlib.Numerals.{add-one}
 use native.Mathlib.Nat.{not-suc-le-zero, eq-or-lt_of_le, le_of_suc-le-suc}
 use native.Mathlib.Omega.{arith}
 use mathlib.Core.Path.{◌≡◌, refl, sym, ◌∙◌}
 use mathlib.Core.Logic.{⊎_elim}
-use mathlib.Core.List.{List}
+use mathlib.Core.List.{List, ◌++◌}
 use lib.ListN.{length, get_or, set, take, drop, length-set, length-drop}
 use lib.Seq.{get_or-set_same, get_or-set_other, length-take-le, get_or-take, get_or-drop, take_all, ext_get_or}
+use Rattle.std.proofs.lemmas.List.{set-append_left, set-append_right}
 use Rattle.lists.specs.Fill.{fill}
 use Rattle.lists.specs.Firsts.{firsts}
 use Rattle.lists.proofs.Firsts.{length_firsts, get_d_firsts}
@@ -40,18 +41,6 @@ module _ {A : Type 0} where
   fill_cong l at f g zero h = refl
   fill_cong l at f g (suc n) h = rw (fill_cong l at f g n (λ k b. h k (omega arith)), h n (omega arith))
 
-  -- what lies below the row, or above it, is as it was
-  pub get_d_fill_below : (l : List A) (at : ℕ) (f : ℕ → A) (n k : ℕ) (d : A) → k < at → get_or (fill l at f n) k d ≡ get_or l k d
-  unfolding fill
-  get_d_fill_below l at f zero k d h = refl
-  get_d_fill_below l at f (suc n) k d h = get_or-set_other (fill l at f n) (at + n) k (f n) d (omega arith) ∙ get_d_fill_below l at f n k d h
-
-  pub get_d_fill_above : (l : List A) (at : ℕ) (f : ℕ → A) (n k : ℕ) (d : A) → at + n ≤ k → get_or (fill l at f n) k d ≡ get_or l k d
-  unfolding fill
-  get_d_fill_above l at f zero k d h = refl
-  get_d_fill_above l at f (suc n) k d h =
-      get_or-set_other (fill l at f n) (at + n) k (f n) d (omega arith) ∙ get_d_fill_above l at f n k d (omega arith)
-
   -- what was stored is read back
   pub get_d_fill : (l : List A) (at : ℕ) (f : ℕ → A) (n k : ℕ) (d : A) → k < n → at + n ≤ length l → get_or (fill l at f n) (at + k) d ≡ f k
   unfolding fill
@@ -61,6 +50,21 @@ module _ {A : Type 0} where
       ⊎_elim (λ e. rw e (get_or-set_same (fill l at f n) (at + n) (f n) d room))
       (λ b. get_or-set_other (fill l at f n) (at + n) (at + k) (f n) d (omega arith) ∙ get_d_fill l at f n k d b (omega arith))
       (eq-or-lt_of_le (le_of_suc-le-suc h))
+
+  -- a row that is stored in the first part of a list, or in what follows it, is stored in the list
+  pub fill_front : (xs ys : List A) (f : ℕ → A) (n : ℕ) → n ≤ length xs → fill xs 0 f n ++ ys ≡ fill (xs ++ ys) 0 f n
+  unfolding fill
+  fill_front xs ys f zero h = refl
+  fill_front xs ys f (suc n) h =
+      let room : 0 + n < length (fill xs 0 f n) = rw (length_fill xs 0 f n) (omega arith) in
+      rw (← set-append_left (fill xs 0 f n) ys (0 + n) (f n) room, fill_front xs ys f n (omega arith))
+
+  pub fill_behind : (xs ys : List A) (at : ℕ) (f : ℕ → A) (n : ℕ) → length xs ≡ at → xs ++ fill ys 0 f n ≡ fill (xs ++ ys) at f n
+  unfolding fill
+  fill_behind xs ys at f zero h = refl
+  fill_behind xs ys at f (suc n) h =
+      let here : at + n - at ≡ 0 + n = omega arith in
+      rw (← fill_behind xs ys at f n h, set-append_right xs (fill ys 0 f n) at (at + n) (f n) h (omega arith), here)
 
   -- a row stored in a slice is the list of the row
   pub part_fill : (l : List A) (at : ℕ) (f : ℕ → A) (n : ℕ) (d : A) → at + n ≤ length l → take n (drop at (fill l at f n)) ≡ firsts f n

@@ -106,10 +106,7 @@ log_none (inf true) f h k = refl
 log_none (inf false) f h k = absurd k
 log_none (fin s zero p) f h k = absurd (no_zero s p f h)
 log_none (fin true (suc n) p) f h k = refl
-log_none (fin false (suc n) p) f h k = absurd (T_not (lt nought (fin false (suc n) p)) k (cross→lt nought (fin false (suc n) p) 0 1 (suc n * up p) (down p) (lit< tt) (down_pos p) (refl, refl) (refl, refl) (some (suc n * up p) (down p) (mul-pos (zero-lt-suc n) (up_pos p)))))
-  where
-    some : (a d : ℕ) → 0 < a → 0 * d < a * 1
-    some a d h = omega arith
+log_none (fin false (suc n) p) f h k = absurd (T_not (lt nought (fin false (suc n) p)) k (cross→lt nought (fin false (suc n) p) 0 1 (suc n * up p) (down p) (lit< tt) (down_pos p) (refl, refl) (refl, refl) (omega (arith, mul-pos (zero-lt-suc n) (up_pos p)))))
 
 pub log_infinite : (y : Float) → T (lt nought y) → T (not (lt y (inf false))) → inf false ≡ log10_of y
 unfolding lt log10_of
@@ -119,10 +116,7 @@ log_infinite (inf false) h k = refl
 log_infinite (fin s n p) h k = absurd k
 
 no_less : (p : ℤ) → T (lt nought (fin false 0 p)) → ⊥
-no_less p h = none (up p) (lt→cross nought (fin false 0 p) 0 1 (0 * up p) (down p) (lit< tt) (down_pos p) (refl, refl) (refl, refl) h)
-  where
-    none : (u : ℕ) → 0 * down p < 0 * u * 1 → ⊥
-    none u h = omega arith
+no_less p h = omega (arith, lt→cross nought (fin false 0 p) 0 1 (0 * up p) (down p) (lit< tt) (down_pos p) (refl, refl) (refl, refl) h)
 
 pub log_normal : (y : Float) → T (fits binary64 y) → T (lt nought y) → T (lt y (inf false)) → T (not (lt y tiny)) → log_of (digits_of (to_bits binary64 y)) (of (field_of (to_bits binary64 y)) ⊖ of 1023) ≡ log10_of y
 unfolding lt log10_of
@@ -143,12 +137,6 @@ log_subnormal (fin false zero p) f h l = absurd (no_less p h)
 log_subnormal (fin false (suc n) p) f h l = subnormal n p f l
 
 -- ---- no NaN
-pub above_number : (y : Float) → T (lt nought y) → T (not (is_nan y))
-unfolding lt is_nan
-above_number nan h = absurd h
-above_number (inf s) h = tt
-above_number (fin s n p) h = tt
-
 pub raised_number : (y : Float) → T (fits binary64 y) → T (lt nought y) → T (lt y tiny) → T (not (is_nan (times54 y)))
 unfolding lt
 raised_number nan f h l = absurd h

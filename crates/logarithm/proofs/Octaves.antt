@@ -42,48 +42,18 @@ either {X} a b f g = go (leb b a) (leb→le b a) (nleb→lt b a)
 pub minus_same : (a b c d : ℕ) → a + d ≡ c + b → minus a b ≡ minus c d
 minus_same a b c d h =
     either a b
-    (λ k. minus_up a b k ∙ ap pos (up_eq a b c d h k) ∙ sym (minus_up c d (up_le a b c d h k)))
-    (λ k. minus_down a b k ∙ ap negsuc (down_eq a b c d h k) ∙ sym (minus_down c d (down_lt a b c d h k)))
-  where
-    up_eq : (a b c d : ℕ) → a + d ≡ c + b → b ≤ a → a - b ≡ c - d
-    up_eq a b c d h k = omega arith
-
-    up_le : (a b c d : ℕ) → a + d ≡ c + b → b ≤ a → d ≤ c
-    up_le a b c d h k = omega arith
-
-    down_eq : (a b c d : ℕ) → a + d ≡ c + b → a < b → b - suc a ≡ d - suc c
-    down_eq a b c d h k = omega arith
-
-    down_lt : (a b c d : ℕ) → a + d ≡ c + b → a < b → c < d
-    down_lt a b c d h k = omega arith
+    (λ k. minus_up a b k ∙ ap pos (omega (arith, h, k)) ∙ sym (minus_up c d (omega (arith, h, k))))
+    (λ k. minus_down a b k ∙ ap negsuc (omega (arith, h, k)) ∙ sym (minus_down c d (omega (arith, h, k))))
 
 pub minus_plus : (x b k : ℕ) → minus x b +ℤ pos k ≡ minus (x + k) b
 minus_plus x b k =
     either x b
-    (λ h. ap (λ (z : ℤ). z +ℤ pos k) (minus_up x b h) ∙ ap pos (up_eq x b k h) ∙ sym (minus_up (x + k) b (up_le x b k h)))
+    (λ h. ap (λ (z : ℤ). z +ℤ pos k) (minus_up x b h) ∙ ap pos (omega (arith, h)) ∙ sym (minus_up (x + k) b (omega (arith, h))))
     (λ h. ap (λ (z : ℤ). z +ℤ pos k) (minus_down x b h) ∙ go (ltb k (suc (b - suc x))) (ltb→lt k (suc (b - suc x))) (nltb→le k (suc (b - suc x))) h)
   where
-    up_eq : (x b k : ℕ) → b ≤ x → x - b + k ≡ x + k - b
-    up_eq x b k h = omega arith
-
-    up_le : (x b k : ℕ) → b ≤ x → b ≤ x + k
-    up_le x b k h = omega arith
-
     go : (t : Bool) → (T t → k < suc (b - suc x)) → (T (not t) → suc (b - suc x) ≤ k) → x < b → cond t (negsuc (suc (b - suc x) - suc k)) (pos (k - suc (b - suc x))) ≡ minus (x + k) b
-    go true f g h = ap negsuc (down_eq x b k h (f tt)) ∙ sym (minus_down (x + k) b (down_lt x b k h (f tt)))
-      where
-        down_eq : (x b k : ℕ) → x < b → k < suc (b - suc x) → suc (b - suc x) - suc k ≡ b - suc (x + k)
-        down_eq x b k h l = omega arith
-
-        down_lt : (x b k : ℕ) → x < b → k < suc (b - suc x) → x + k < b
-        down_lt x b k h l = omega arith
-    go false f g h = ap pos (over_eq x b k h (g tt)) ∙ sym (minus_up (x + k) b (over_le x b k h (g tt)))
-      where
-        over_eq : (x b k : ℕ) → x < b → suc (b - suc x) ≤ k → k - suc (b - suc x) ≡ x + k - b
-        over_eq x b k h l = omega arith
-
-        over_le : (x b k : ℕ) → x < b → suc (b - suc x) ≤ k → b ≤ x + k
-        over_le x b k h l = omega arith
+    go true f g h = ap negsuc (omega (arith, h, f tt)) ∙ sym (minus_down (x + k) b (omega (arith, h, f tt)))
+    go false f g h = ap pos (omega (arith, h, g tt)) ∙ sym (minus_up (x + k) b (omega (arith, h, g tt)))
 
 -- whole numbers' difference is exact
 of_pos : (n : ℕ) → round binary64 false n 1 ≡ of_int binary64 (pos n)
@@ -142,10 +112,7 @@ exponent_is s n p = refl
 octave_small : (n : ℕ) → suc n < 2 ^ 53 → octave (suc n) ≤ 53
 octave_small n h =
     let w = octave_says n in
-    le_of_suc-le-suc (lt_of_not-le (λ (g : 54 ≤ octave (suc n)). let k : 2 ^ 54 ≤ 2 ^ octave (suc n) = pow_mono g in no (suc n) (2 ^ octave (suc n)) w.0 k h))
-  where
-    no : (n q : ℕ) → 3 * q ≤ 4 * n → 2 ^ 54 ≤ q → n < 2 ^ 53 → ⊥
-    no n q h k l = omega arith
+    le_of_suc-le-suc (lt_of_not-le (λ (g : 54 ≤ octave (suc n)). let k : 2 ^ 54 ≤ 2 ^ octave (suc n) = pow_mono g in omega (arith, w.0, k, h)))
 
 -- m is exact
 mantissa_value : (n : ℕ) → suc n < 2 ^ 53 → HasValue (round binary64 false (suc n) (2 ^ octave (suc n))) false (suc n) (2 ^ octave (suc n))
@@ -163,10 +130,7 @@ plus_up (negsuc x) k = go (ltb k (suc x)) (ltb→lt k (suc x)) (nltb→le k (suc
   where
     go : (t : Bool) → (T t → k < suc x) → (T (not t) → suc x ≤ k) → up (cond t (negsuc (suc x - suc k)) (pos (k - suc x))) * 2 ^ suc x ≡ 1 * 2 ^ k * down (cond t (negsuc (suc x - suc k)) (pos (k - suc x)))
     go true f g =
-        one-mul (2 ^ suc x) ∙ ap (λ (z : ℕ). 2 ^ z) (less x k (f tt)) ∙ pow-add 2 k (suc (suc x - suc k)) ∙ ap (λ (z : ℕ). z * 2 ^ suc (suc x - suc k)) (sym (one-mul (2 ^ k)))
-      where
-        less : (x k : ℕ) → k < suc x → suc x ≡ k + suc (suc x - suc k)
-        less x k h = omega arith
+        one-mul (2 ^ suc x) ∙ ap (λ (z : ℕ). 2 ^ z) (omega (arith, f tt)) ∙ pow-add 2 k (suc (suc x - suc k)) ∙ ap (λ (z : ℕ). z * 2 ^ suc (suc x - suc k)) (sym (one-mul (2 ^ k)))
     go false f g = sym (pow-add 2 (k - suc x) (suc x)) ∙ ap (λ (z : ℕ). 2 ^ z) (back k (suc x) (g tt)) ∙ sym (one-mul (2 ^ k)) ∙ sym (mul-one (1 * 2 ^ k))
 
 pub three_quarters : HasValue (fraction 3 4) false 3 4
@@ -197,15 +161,12 @@ split n p t =
     let v : HasValue (mantissa_of (fin false (suc n) p)) false (suc n) (2 ^ k) = subst (λ (z : Float). HasValue z false (suc n) (2 ^ k)) (sym (mantissa_is false (suc n) p)) (mantissa_value n (fits_says binary64 false n p t).1) in
     record {
       low = le_of_values (fraction 3 4) (mantissa_of (fin false (suc n) p)) 3 4 (suc n) (2 ^ k) (lit< tt) (pow_pos k) three_quarters v (le_trans w.0 (le_of_eq (mul_comm 4 (suc n))));
-      high = cross→lt (mantissa_of (fin false (suc n) p)) (fraction 3 2) (suc n) (2 ^ k) 3 2 (pow_pos k) (lit< tt) v three_halves (half (suc n) (2 ^ k) w.1);
+      high = cross→lt (mantissa_of (fin false (suc n) p)) (fraction 3 2) (suc n) (2 ^ k) 3 2 (pow_pos k) (lit< tt) v three_halves (omega (arith, w.1));
       value = λ a c C q. (
         refl,
         scaled (suc n) (up p) (down p) a c (up (p +ℤ pos k)) (down (p +ℤ pos k)) (2 ^ k) (same_value (mantissa_of (fin false (suc n) p)) false (suc n) (2 ^ k) a c v q) (plus_up p k),
       );
     }
-  where
-    half : (n q : ℕ) → 4 * n < 6 * q → n * 2 < 3 * q
-    half n q h = omega arith
 
 -- ---- the bit pattern
 -- two numbers in one octave each, one a power of two times the other

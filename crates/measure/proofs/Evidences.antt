@@ -1,4 +1,5 @@
--- The evidence of the blocks that a prepared slice holds is that of the recording (`evidence_prepared`). Assumes nothing.
+-- The evidence of the blocks that a prepared slice holds is that of the recording (`evidence_prepared`). Assumes
+-- nothing.
 use Prim.Native.Nat.{ℕ}
 use mathlib.Core.Path.{◌≡◌, refl, ◌∙◌}
 use mathlib.Core.List.{List}
@@ -10,7 +11,8 @@ use Rattle.measure.specs.declared.evidence.SecondCarrierEvidence.{SecondCarrierE
 use Rattle.prepared.specs.Inner.{of_class}
 use Rattle.gaps.specs.Reference.{mean_at}
 use Rattle.measure.specs.Evidence.{is_in, evidence_by, evidence_of}
-use Rattle.measure.proofs.Grids.{Held, class_held}
+use Rattle.measure.proofs.Grids.{class_held}
+use Rattle.measure.specs.Inner.{Held}
 use Rattle.measure.proofs.Same.{evidence_same}
 
 pub evidence_prepared : (iq : List Float) (fs carrier : Float) (class : ℕ → BlockClass) (blocks : ℕ) (means codes : List Float)

@@ -1,4 +1,5 @@
--- The residual check of the blocks that a prepared slice holds: from what each of its steps ensures to the check's definition.
+-- The residual check of the blocks that a prepared slice holds: from what each of its steps ensures to the check's
+-- definition.
 use Prim.Native.Nat.{ℕ, ◌<◌}
 use mathlib.Core.Path.{◌≡◌, refl, ap, ◌∙◌}
 use mathlib.Core.List.{List}
@@ -24,8 +25,8 @@ use Rattle.prepared.specs.Powers.{block_power, powers_of}
 use Rattle.prepared.specs.Left.{less_fits, residual_mean}
 use Rattle.measure.specs.Residual.{figures_of, residual_of}
 use Rattle.prepared.specs.Inner.{of_class, class_powers}
-use Rattle.measure.specs.Inner.{figures_from, residual_held}
-use Rattle.measure.proofs.Grids.{Held, class_held}
+use Rattle.measure.specs.Inner.{Held, figures_from, residual_held}
+use Rattle.measure.proofs.Grids.{class_held}
 
 -- one level, of the powers of what is left: the means in the slice `left`, in place of those in the slice `means`
 pub record Ranked (left codes : List Float) (blocks : ℕ) (c : BlockClass) (p : Float) (level : Level) : Type 0 where

@@ -1,4 +1,5 @@
--- The blocks of a recording that a prepared slice holds: how many they are, and their means and classes. Assumes nothing.
+-- The blocks of a recording that a prepared slice holds: how many they are, and their means and classes. Assumes
+-- nothing.
 use Prim.Native.Nat.{ℕ, ◌+◌, ◌*◌, ◌/◌, ◌≤◌, ◌<◌}
 use native.Mathlib.Omega.{arith}
 use mathlib.Core.Path.{◌≡◌, sym, ap, ◌∙◌}
@@ -8,25 +9,20 @@ use lib.Seq.{length-take-le, get_or-take, get_or-drop}
 use lib.Ieee.{Float, nan}
 use Rattle.lists.proofs.Firsts.{firsts_take}
 use Rattle.complex.specs.declared.value.Complex.{Complex}
-use Rattle.complex.specs.Rows.{z_at}
 use Rattle.row.specs.Window.{window_of}
 use Rattle.row.specs.Window as window
 use Rattle.classes.specs.declared.class.BlockClass.{BlockClass}
-use Rattle.classes.specs.Class.{code_of, codes_of, is_class}
+use Rattle.classes.specs.Class.{code_of, is_class}
 use Rattle.classes.proofs.Counts.{class_told}
 use Rattle.prepared.specs.Sections.{SIDES}
 use Rattle.prepared.specs.Inner.{Prepared, of_class}
 use Rattle.prepared.proofs.Parts.{z_at_same}
+use Rattle.measure.specs.Inner.{Held}
 
 -- the grid's blocks are those of the recording
 pub grid_count : (iq iq' : List Float) (fs fs' : Float) (len blocks : ℕ) → iq' ≡ iq → fs' ≡ fs → len ≡ window_of fs' → blocks ≡ length iq' / 2 / len
     → blocks ≡ window.blocks iq (window_of fs)
 grid_count iq iq' fs fs' len blocks e f w b = rw (b, w, e, f)
-
--- two slices that hold the means of so many blocks and the numbers of their classes
-pub record Held (means codes : List Float) (z : ℕ → Complex) (class : ℕ → BlockClass) (blocks : ℕ) : Type 0 where
-  pub mean : (b : ℕ) → b < blocks → z_at means b ≡ z b
-  pub classes : codes ≡ codes_of class blocks
 
 -- the front of a prepared slice, cut in two
 pub held : (w u means codes : List Float) (z : ℕ → Complex) (class : ℕ → BlockClass) (blocks n : ℕ) → Prepared w z class n → blocks ≡ n → u ≡ take (SIDES * blocks) w

@@ -16,12 +16,11 @@ use Rattle.measure.specs.declared.residual.ResidualCheck.{ResidualCheck}
 use Rattle.measure.specs.declared.evidence.SecondCarrierEvidence.{SecondCarrierEvidence}
 use Rattle.measure.specs.declared.both.Measures.{Measures}
 use Rattle.prepared.specs.Inner.{of_class}
-use Rattle.measure.specs.Inner.{residual_held}
+use Rattle.measure.specs.Inner.{Held, residual_held}
 use Rattle.measure.specs.Residual.{residual_check_of}
 use Rattle.gaps.specs.Reference.{mean_at}
 use Rattle.measure.specs.Evidence.{evidence_by, evidence_check_of}
 use Rattle.measure.specs.Both.{measures_of}
-use Rattle.measure.proofs.Grids.{Held}
 use Rattle.measure.proofs.Figures as residuals
 use Rattle.measure.proofs.Evidences as evidences
 

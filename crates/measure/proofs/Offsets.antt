@@ -71,13 +71,13 @@ strongest_is p f0 rate x y z b r hx hy hz e h =
 
 -- ---- the ways out of `find_offset`
 
-module _ (mean : Float → ℕ → Complex) (fs carrier : Float) (pairs : Pairs) (blocks : List ℕ) where
+module _ (mean : Float → ℕ → Complex) (carrier : Float) (pairs : Pairs) (blocks : List ℕ) where
   pub offset_none : (rate : Float) → pairs.count ≡ 0 → None ≡ offset_from mean carrier rate pairs blocks
   unfolding offset_from
   offset_none rate e = rw (eq-eqb pairs.count 0 e)
 
-  pub offset_some : (len : ℕ) (d a r : Float) → (pairs.count ≡ 0 → ⊥) → d ≡ of len → len ≡ window_of fs → a ≡ c_arg pairs.sum
+  pub offset_some : (fs : Float) (len : ℕ) (d a r : Float) → (pairs.count ≡ 0 → ⊥) → d ≡ of len → len ≡ window_of fs → a ≡ c_arg pairs.sum
       → r ≡ strongest (power_at mean carrier blocks) (a ⊗ (fs ⊘ d) ⊘ bits 0x4019_21fb_5444_2d18) (fs ⊘ d)
       → Some r ≡ offset_from mean carrier (fs ⊘ of (window_of fs)) pairs blocks
   unfolding offset_from
-  offset_some len d a r n e w q h = rw (ne_eqb pairs.count 0 n, h, q, e, w, tau_bits)
+  offset_some fs len d a r n e w q h = rw (ne_eqb pairs.count 0 n, h, q, e, w, tau_bits)

@@ -4,16 +4,16 @@ use Rattle.std.proofs.Common.{Some, None}
 use Rattle.std.specs.declared.option.Option.{Option}
 use mathlib.Core.Path.{◌≡◌, refl}
 use mathlib.Core.Bool.{true, false}
-use lib.Ieee.{Float, inf, lt, of_bits, of_int, div}
-use Rattle.float.specs.Ops.{◌⊗◌, ◌⊘◌, bits, of, plus_zero, one}
+use lib.Ieee.{Float, inf, lt, of_bits, of_int}
+use Rattle.float.specs.Ops.{◌⊗◌, ◌⊘◌, bits, of, plus_zero}
 use Rattle.float.specs.Compare.{max_of}
 use Rattle.logarithm.specs.Logarithm.{log10_of}
 use Rattle.constants.proofs.Bits.{min_positive_bits}
 use Rattle.measure.specs.Residual.{ratio_db, floored}
 
--- 1.0 / 0.0 of the code, and its 10.0
-infinity_is : one ⊘ plus_zero ≡ inf false
-unfolding of_bits div
+-- f64::INFINITY of the code, and its 10.0
+infinity_is : bits 0x7ff0_0000_0000_0000 ≡ inf false
+unfolding of_bits
 infinity_is = refl
 
 ten_is : of 10 ≡ bits 0x4024_0000_0000_0000
@@ -21,16 +21,16 @@ unfolding of_bits of_int
 ten_is = refl
 
 module _ (num den : Option Float) where
-  pub no_upper : num ≡ None → one ⊘ plus_zero ≡ ratio_db num den
+  pub no_upper : num ≡ None → bits 0x7ff0_0000_0000_0000 ≡ ratio_db num den
   unfolding ratio_db
   no_upper e = rw (e, infinity_is)
 
-  pub no_lower : (n : Float) → num ≡ Some n → den ≡ None → one ⊘ plus_zero ≡ ratio_db num den
+  pub no_lower : (n : Float) → num ≡ Some n → den ≡ None → bits 0x7ff0_0000_0000_0000 ≡ ratio_db num den
   unfolding ratio_db
   no_lower n e f = rw (e, f, infinity_is)
 
   module _ (n d : Float) (e : num ≡ Some n) (f : den ≡ Some d) where
-    pub lower_not_above : lt plus_zero d ≡ false → one ⊘ plus_zero ≡ ratio_db num den
+    pub lower_not_above : lt plus_zero d ≡ false → bits 0x7ff0_0000_0000_0000 ≡ ratio_db num den
     unfolding ratio_db
     lower_not_above h = rw (e, f, h, infinity_is)
 

@@ -1,8 +1,11 @@
 -- Not needed to read a public promise: what the functions behind the measures ensure. Definitions only.
-use Rattle.std.specs.Prelude.{ℕ, List, Float}
+use Rattle.std.specs.Prelude.{ℕ, ◌<◌, ◌≡◌, List, Float}
 use Rattle.lists.specs.Those.{picked}
+use Rattle.complex.specs.declared.value.Complex.{Complex}
 use Rattle.complex.specs.Rows.{z_at}
+use Rattle.classes.specs.declared.class.BlockClass.{BlockClass}
 use Rattle.classes.specs.declared.class.BlockClass.TheVariants.{Edge, Interior, Gap}
+use Rattle.classes.specs.Class.{codes_of}
 use Rattle.fits.specs.declared.fit.ElementFit.{ElementFit}
 use Rattle.prepared.specs.declared.powers.Level.{Level}
 use Rattle.prepared.specs.Powers.{block_power}
@@ -10,6 +13,11 @@ use Rattle.prepared.specs.Left.{residual_mean}
 use Rattle.prepared.specs.Inner.{of_class}
 use Rattle.measure.specs.declared.residual.ResidualCheck.{ResidualCheck}
 use Rattle.measure.specs.Residual.{ratio_db, floored, figures_of}
+
+-- two slices that hold the means of so many blocks and the numbers of their classes
+pub record Held (means codes : List Float) (z : ℕ → Complex) (class : ℕ → BlockClass) (blocks : ℕ) : Type 0 where
+  pub mean : (b : ℕ) → b < blocks → z_at means b ≡ z b
+  pub classes : codes ≡ codes_of class blocks
 
 -- the figures of a level for each class
 abbrev pub figures_from : Level → Level → Level → ResidualCheck

@@ -6,13 +6,10 @@ ghost use Rattle.fits.specs.List.{fits_in};
 ghost use Rattle.measure.specs.Both.{measures_of};
 
 use crate::evidence::{SecondCarrierEvidence, evidence};
+use crate::ready::{Ready, make_ready};
 use crate::residual::{ResidualCheck, residual};
 use classes::{ClassCounts, count_classes};
-use elements::Elements;
-use fits::Fits;
-use prepared::classed::Classed;
-use prepared::prepare::prepare;
-use prepared::sections::SIDES;
+use fits::StrongSender;
 use row::Recording;
 use trig::Sines;
 
@@ -27,25 +24,23 @@ pub struct Measures {
 
 // Rust: residual_check and second_carrier_evidence, which make the block means and the classes once each. Both only
 // read what is prepared.
+// What room the work slice has stands in a clause, as in fits/src/estimate.rt.
 pub fn measure_both(
     recording: &Recording,
-    carrier: f64,
-    elements: &Elements,
-    fits: &Fits,
+    sender: &StrongSender,
     work: &mut [f64],
     sine: &Sines,
 ) -> Measures
     requires { 4 * step_blocks recording.now.samples.iq.now recording.now.rate.hz ≤ length work.old }
-    ensures { result ≡ measures_of recording.now.samples.iq.now recording.now.rate.hz carrier
-        (fits_in fits.now.numbers.now fits.now.count) (elements_in elements.now.numbers.now elements.now.count) }
+    ensures { result ≡ measures_of recording.now.samples.iq.now recording.now.rate.hz sender.now.carrier_hz
+        (fits_in sender.now.fits.numbers.now sender.now.fits.count) (elements_in sender.now.elements.numbers.now sender.now.elements.count) }
 {
-    let grid = prepare(recording, carrier, elements, fits, work, sine);
-    let (held, free) = work.split_at_mut(SIDES * grid.blocks);
-    let held = Classed::new(&grid, held);
+    let Ready { classed, free } = make_ready(recording, sender, work, sine);
+    let blocks = classed.grid.blocks;
     Measures {
-        blocks: grid.blocks,
-        classes: count_classes(held.codes),
-        residual: residual(&held, fits, free, sine),
-        evidence: evidence(&held, free, sine),
+        blocks: blocks.count,
+        classes: count_classes(classed.held.codes),
+        residual: residual(blocks, &classed.held, &sender.fits, free, sine),
+        evidence: evidence(&classed, free, sine),
     }
 }

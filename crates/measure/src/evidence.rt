@@ -18,13 +18,11 @@ ghost use Rattle.gaps.specs.Reference.{mean_at};
 ghost use Rattle.measure.specs.Evidence.{hot_fraction_of, coherence_of, evidence_with, evidence_by, evidence_check_of};
 
 use crate::offset::find_offset;
-use elements::Elements;
-use fits::Fits;
+use crate::ready::{Ready, make_ready};
+use fits::StrongSender;
 use gaps::pairs::{Gaps, Pairs, count_gaps, sum_pairs};
 use gaps::reference::find_reference;
 use prepared::classed::Classed;
-use prepared::prepare::prepare;
-use prepared::sections::SIDES;
 use row::Recording;
 use trig::Sines;
 
@@ -58,44 +56,42 @@ fn coherence(p: Pairs) -> f64
 }
 
 // The evidence against a reference.
-fn evidence_with(held: &Classed, reference: f64, sine: &Sines) -> SecondCarrierEvidence
-    ensures { result ≡ evidence_with (mean_at held.now.grid.samples.iq.now held.now.grid.rate.hz) held.now.grid.rate.hz held.now.grid.carrier
-        (of_class held.now.codes.now Gap) (z_at held.now.means.now) held.now.grid.blocks reference }
+fn evidence_with(classed: &Classed, reference: f64, sine: &Sines) -> SecondCarrierEvidence
+    ensures { result ≡ evidence_with (mean_at classed.now.grid.samples.iq.now classed.now.grid.blocks.fs) classed.now.grid.blocks.fs classed.now.grid.carrier
+        (of_class classed.now.held.codes.now Gap) (z_at classed.now.held.means.now) classed.now.grid.blocks.count reference }
 {
-    let gaps = count_gaps(held, reference);
-    let pairs = sum_pairs(held, reference);
+    let gaps = count_gaps(&classed.held, reference);
+    let pairs = sum_pairs(&classed.held, reference);
     SecondCarrierEvidence {
         gap_blocks: gaps.blocks,
         hot_fraction: hot_fraction(gaps),
-        offset_hz: find_offset(held, reference, pairs, sine),
+        offset_hz: find_offset(classed, reference, pairs, sine),
         coherence: coherence(pairs),
     }
 }
 
 // Past the block means and their classes. The powers go to what is free of the work slice.
-pub fn evidence(held: &Classed, free: &mut [f64], sine: &Sines) -> SecondCarrierEvidence
-    requires { 2 * held.now.grid.blocks ≤ length free.old }
-    ensures { result ≡ evidence_by (mean_at held.now.grid.samples.iq.now held.now.grid.rate.hz) held.now.grid.rate.hz held.now.grid.carrier
-        (of_class held.now.codes.now Gap) (of_class held.now.codes.now Interior) (z_at held.now.means.now) held.now.grid.blocks }
+pub fn evidence(classed: &Classed, free: &mut [f64], sine: &Sines) -> SecondCarrierEvidence
+    requires { 2 * classed.now.grid.blocks.count ≤ length free.old }
+    ensures { result ≡ evidence_by (mean_at classed.now.grid.samples.iq.now classed.now.grid.blocks.fs) classed.now.grid.blocks.fs classed.now.grid.carrier
+        (of_class classed.now.held.codes.now Gap) (of_class classed.now.held.codes.now Interior) (z_at classed.now.held.means.now) classed.now.grid.blocks.count }
 {
-    let reference = find_reference(held, free, sine);
-    evidence_with(held, reference, sine)
+    let reference = find_reference(classed, free, sine);
+    evidence_with(classed, reference, sine)
 }
 
 // Rust: second_carrier_evidence. The means, the classes and the powers are in the lent work slice.
+// What room the slice has stands in a clause, as in fits/src/estimate.rt.
 pub fn second_carrier_evidence(
     recording: &Recording,
-    carrier: f64,
-    elements: &Elements,
-    fits: &Fits,
+    sender: &StrongSender,
     work: &mut [f64],
     sine: &Sines,
 ) -> SecondCarrierEvidence
     requires { 4 * step_blocks recording.now.samples.iq.now recording.now.rate.hz ≤ length work.old }
-    ensures { result ≡ evidence_check_of recording.now.samples.iq.now recording.now.rate.hz carrier
-        (fits_in fits.now.numbers.now fits.now.count) (elements_in elements.now.numbers.now elements.now.count) }
+    ensures { result ≡ evidence_check_of recording.now.samples.iq.now recording.now.rate.hz sender.now.carrier_hz
+        (fits_in sender.now.fits.numbers.now sender.now.fits.count) (elements_in sender.now.elements.numbers.now sender.now.elements.count) }
 {
-    let grid = prepare(recording, carrier, elements, fits, work, sine);
-    let (held, free) = work.split_at_mut(SIDES * grid.blocks);
-    evidence(&Classed::new(&grid, held), free, sine)
+    let Ready { classed, free } = make_ready(recording, sender, work, sine);
+    evidence(&classed, free, sine)
 }

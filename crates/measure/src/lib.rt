@@ -6,6 +6,7 @@ pub mod both;
 pub mod evidence;
 pub mod hypothesis;
 pub mod offset;
+mod ready;
 pub mod residual;
 
 pub use both::{Measures, measure_both};

@@ -15,7 +15,7 @@ ghost use Rattle.measure.specs.Offset.{power_at, strongest, offset_from};
 ghost use Rattle.gaps.specs.Reference.{mean_at};
 
 use constants::PAIR_FACTOR;
-use gaps::pairs::{Pairs, in_pair};
+use gaps::pairs::{AtLevel, Pairs};
 use prepared::classed::Classed;
 use row::mean_from;
 use trig::{Sines, TAU};
@@ -27,17 +27,23 @@ pub struct Candidate {
     pub power: f64,
 }
 
-// The sum of the powers, at cyc cycles a sample, of the blocks in pairs. The start is raised for the others too.
-fn paired_power(held: &Classed, cyc: f64, level: f64, sine: &Sines) -> f64
-    ensures { result ≡ sum_over (block_power (block_mean held.now.grid.samples.iq.now cyc held.now.grid.window)) minus_zero
-        (pair_blocks (above (of_class held.now.codes.now Gap) (z_at held.now.means.now) level) held.now.grid.blocks) }
+// The sum of the powers, at cyc cycles a sample, of the blocks in pairs. The start is raised for the others too: so no
+// turn multiplies for it, and no `filter` takes them out.
+fn paired_power(classed: &Classed, cyc: f64, level: f64, sine: &Sines) -> f64
+    ensures { result ≡ sum_over (block_power (block_mean classed.now.grid.samples.iq.now cyc classed.now.grid.blocks.window)) minus_zero
+        (pair_blocks (above (of_class classed.now.held.codes.now Gap) (z_at classed.now.held.means.now) level) classed.now.grid.blocks.count) }
 {
-    let len = held.grid.window;
+    let samples = classed.grid.samples;
+    let len = classed.grid.blocks.window;
+    let strong = AtLevel {
+        held: classed.held,
+        level,
+    };
     let mut sum = -0.0;
     let mut from: usize = 0;
-    for b in 0..held.grid.blocks {
-        if in_pair(held, level, b) {
-            sum += mean_from(&held.grid.samples, cyc, from, len, sine).norm_sqr();
+    for b in 0..classed.grid.blocks.count {
+        if strong.in_pair(b) {
+            sum += mean_from(&samples, cyc, from, len, sine).norm_sqr();
         }
         from += len;
     }
@@ -45,14 +51,14 @@ fn paired_power(held: &Classed, cyc: f64, level: f64, sine: &Sines) -> f64
 }
 
 // Rust: `power` in second_carrier_evidence, with the offset it is of.
-fn measured(held: &Classed, level: f64, f: f64, sine: &Sines) -> Candidate
-    ensures { (result.hz ≡ f) × (result.power ≡ power_at (mean_at held.now.grid.samples.iq.now held.now.grid.rate.hz) held.now.grid.carrier
-        (pair_blocks (above (of_class held.now.codes.now Gap) (z_at held.now.means.now) level) held.now.grid.blocks) f) }
+fn measured(classed: &Classed, level: f64, f: f64, sine: &Sines) -> Candidate
+    ensures { (result.hz ≡ f) × (result.power ≡ power_at (mean_at classed.now.grid.samples.iq.now classed.now.grid.blocks.fs) classed.now.grid.carrier
+        (pair_blocks (above (of_class classed.now.held.codes.now Gap) (z_at classed.now.held.means.now) level) classed.now.grid.blocks.count) f) }
 {
-    let cyc = (held.grid.carrier + f) / held.grid.rate.hz;
+    let cyc = (classed.grid.carrier + f) / classed.grid.blocks.fs;
     Candidate {
         hz: f,
-        power: paired_power(held, cyc, level, sine),
+        power: paired_power(classed, cyc, level, sine),
     }
 }
 
@@ -64,27 +70,27 @@ fn stronger(best: Candidate, next: Candidate) -> Candidate
 }
 
 // Rust: the loop over `[f0 - rate, f0 + rate]`.
-fn strongest(held: &Classed, level: f64, f0: f64, rate: f64, sine: &Sines) -> f64
-    ensures { result ≡ strongest (power_at (mean_at held.now.grid.samples.iq.now held.now.grid.rate.hz) held.now.grid.carrier
-        (pair_blocks (above (of_class held.now.codes.now Gap) (z_at held.now.means.now) level) held.now.grid.blocks)) f0 rate }
+fn strongest(classed: &Classed, level: f64, f0: f64, rate: f64, sine: &Sines) -> f64
+    ensures { result ≡ strongest (power_at (mean_at classed.now.grid.samples.iq.now classed.now.grid.blocks.fs) classed.now.grid.carrier
+        (pair_blocks (above (of_class classed.now.held.codes.now Gap) (z_at classed.now.held.means.now) level) classed.now.grid.blocks.count)) f0 rate }
 {
-    let first = measured(held, level, f0, sine);
-    let under = measured(held, level, f0 - rate, sine);
-    let over = measured(held, level, f0 + rate, sine);
+    let first = measured(classed, level, f0, sine);
+    let under = measured(classed, level, f0 - rate, sine);
+    let over = measured(classed, level, f0 + rate, sine);
     stronger(stronger(first, under), over).hz
 }
 
 // Rust: `offset_hz` in second_carrier_evidence.
-pub fn find_offset(held: &Classed, reference: f64, pairs: Pairs, sine: &Sines) -> Option<f64>
-    ensures { result ≡ offset_from (mean_at held.now.grid.samples.iq.now held.now.grid.rate.hz) held.now.grid.carrier
-        (held.now.grid.rate.hz ⊘ of (window_of held.now.grid.rate.hz)) pairs
-        (pair_blocks (strong (of_class held.now.codes.now Gap) (z_at held.now.means.now) reference) held.now.grid.blocks) }
+pub fn find_offset(classed: &Classed, reference: f64, pairs: Pairs, sine: &Sines) -> Option<f64>
+    ensures { result ≡ offset_from (mean_at classed.now.grid.samples.iq.now classed.now.grid.blocks.fs) classed.now.grid.carrier
+        (classed.now.grid.blocks.fs ⊘ of (window_of classed.now.grid.blocks.fs)) pairs
+        (pair_blocks (strong (of_class classed.now.held.codes.now Gap) (z_at classed.now.held.means.now) reference) classed.now.grid.blocks.count) }
 {
     if pairs.count == 0 {
         return None;
     }
-    let rate = held.grid.rate.hz / float::from_whole(held.grid.window);
+    let rate = classed.grid.blocks.fs / float::from_whole(classed.grid.blocks.window);
     let f0 = pairs.sum.arg() * rate / TAU;
     let level = PAIR_FACTOR * reference;
-    Some(strongest(held, level, f0, rate, sine))
+    Some(strongest(classed, level, f0, rate, sine))
 }

@@ -6,24 +6,23 @@
 //     493 to 502        the powers of each class                  prepared::powers
 //     503 to 510        the levels and the answer                 here
 ghost use Rattle.std.specs.Prelude.{◌≡◌, ◌*◌, ◌≤◌, length};
-ghost use Rattle.row.specs.Window.{step_blocks};
+ghost use Rattle.row.specs.Window.{window_of, step_blocks};
 ghost use Rattle.elements.specs.Element.{elements_in};
 ghost use Rattle.fits.specs.List.{fits_in};
 ghost use Rattle.measure.specs.Residual.{ratio_db, floored, residual_check_of, clean_of};
 ghost use Rattle.measure.specs.Inner.{figures_from, residual_held};
 
+use crate::ready::{Ready, make_ready};
 use classes::BlockClass;
 use constants::{
     CLEAN_EDGE_OVER_NEIGHBOUR_DB, CLEAN_INTERIOR_OVER_NEIGHBOUR_DB, MIN_POSITIVE,
     NEIGHBOUR_PERCENTILE,
 };
-use elements::Elements;
-use fits::Fits;
-use prepared::classed::Classed;
+use fits::{Fits, StrongSender};
+use prepared::classed::ClassedMeans;
+use prepared::grid::Blocks;
 use prepared::left::subtract_from_means;
 use prepared::powers::{Level, level_of};
-use prepared::prepare::prepare;
-use prepared::sections::SIDES;
 use row::Recording;
 use trig::Sines;
 
@@ -52,18 +51,17 @@ impl ResidualCheck {
 fn ratio_db(num: Option<f64>, den: Option<f64>) -> f64
     ensures { result ≡ ratio_db num (floored den) }
 {
-    let infinity = 1.0 / 0.0;
     let Some(n) = num else {
-        return infinity;
+        return f64::INFINITY;
     };
     let Some(v) = den else {
-        return infinity;
+        return f64::INFINITY;
     };
     let d = float::max(v, MIN_POSITIVE);
     if d > 0.0 {
         10.0 * logarithm::log10(float::max(n, MIN_POSITIVE) / d)
     } else {
-        infinity
+        f64::INFINITY
     }
 }
 
@@ -81,15 +79,23 @@ fn check_of(edge: Level, interior: Level, gap: Level) -> ResidualCheck
 }
 
 // Past the block means and their classes. What is left of the means, and the powers, go to what is free of the work
-// slice.
-pub fn residual(held: &Classed, fits: &Fits, free: &mut [f64], sine: &Sines) -> ResidualCheck
-    requires { 3 * held.now.grid.blocks ≤ length free.old }
-    ensures { result ≡ residual_held held.now.means.now held.now.codes.now held.now.grid.blocks held.now.grid.rate.hz (fits_in fits.now.numbers.now fits.now.count) }
+// slice. That the window is the rate's stands in a clause: `Blocks` does not say so, `Grid` does, and it is needed of
+// blocks without a grid only here.
+pub fn residual(
+    blocks: Blocks,
+    held: &ClassedMeans,
+    fits: &Fits,
+    free: &mut [f64],
+    sine: &Sines,
+) -> ResidualCheck
+    requires window { blocks.window ≡ window_of blocks.fs }
+    requires all { length held.now.codes.now ≡ blocks.count }
+    requires room { 3 * blocks.count ≤ length free.old }
+    ensures { result ≡ residual_held held.now.means.now held.now.codes.now blocks.count blocks.fs (fits_in fits.now.numbers.now fits.now.count) }
 {
-    let (left, powers) = free.split_at_mut(2 * held.grid.blocks);
-    subtract_from_means(held, fits, left, sine);
-    let rest = Classed {
-        grid: held.grid,
+    let (left, powers) = free.split_at_mut(2 * blocks.count);
+    subtract_from_means(blocks, held.means, fits, left, sine);
+    let rest = ClassedMeans {
         means: left,
         codes: held.codes,
     };
@@ -99,20 +105,17 @@ pub fn residual(held: &Classed, fits: &Fits, free: &mut [f64], sine: &Sines) -> 
     check_of(edge, interior, gap)
 }
 
-// Rust: residual_check. The estimate is its carrier, elements and fits.
+// Rust: residual_check. What room the work slice has stands in a clause, as in fits/src/estimate.rt.
 pub fn residual_check(
     recording: &Recording,
-    carrier: f64,
-    elements: &Elements,
-    fits: &Fits,
+    sender: &StrongSender,
     work: &mut [f64],
     sine: &Sines,
 ) -> ResidualCheck
     requires { 4 * step_blocks recording.now.samples.iq.now recording.now.rate.hz ≤ length work.old }
-    ensures { result ≡ residual_check_of recording.now.samples.iq.now recording.now.rate.hz carrier
-        (fits_in fits.now.numbers.now fits.now.count) (elements_in elements.now.numbers.now elements.now.count) }
+    ensures { result ≡ residual_check_of recording.now.samples.iq.now recording.now.rate.hz sender.now.carrier_hz
+        (fits_in sender.now.fits.numbers.now sender.now.fits.count) (elements_in sender.now.elements.numbers.now sender.now.elements.count) }
 {
-    let grid = prepare(recording, carrier, elements, fits, work, sine);
-    let (held, free) = work.split_at_mut(SIDES * grid.blocks);
-    residual(&Classed::new(&grid, held), fits, free, sine)
+    let Ready { classed, free } = make_ready(recording, sender, work, sine);
+    residual(classed.grid.blocks, &classed.held, &sender.fits, free, sine)
 }

@@ -1,6 +1,6 @@
 -- The work slice made ready: how many blocks there are, that they leave room, and what the slice holds.
 use Prim.Native.Nat.{ℕ, ◌-◌, ◌*◌, ◌/◌, ◌≤◌, ◌<◌}
-use native.Mathlib.Nat.{mul-le-mul_left, le-div_iff_mul-le, div-mul-le_self, mul_assoc, mul_comm}
+use native.Mathlib.Nat.{le-div_iff_mul-le, div-mul-le_self, mul_assoc, mul_comm}
 use native.Mathlib.Omega.{arith}
 use mathlib.Core.Path.{◌≡◌, ◌∙◌}
 use mathlib.Core.List.{List}
@@ -15,7 +15,7 @@ use Rattle.row.specs.Samples.{Iq}
 use Rattle.row.specs.Window.{Rate, step_of, window_of, samples, step_blocks}
 use Rattle.row.specs.Window as window
 use Rattle.row.specs.Blocks.{block_mean}
-use Rattle.row.proofs.Steps.{step_low, step_high}
+use Rattle.row.proofs.Steps.{step_low}
 use Rattle.classes.specs.declared.class.BlockClass.{BlockClass}
 use Rattle.classes.specs.Class.{codes_of}
 use Rattle.classes.proofs.Classes.{codes_length, code_at}
@@ -33,14 +33,12 @@ eighth n s h =
 -- ---- how many blocks there are
 pub record Counted (iq : List Float) (fs : Float) (len blocks : ℕ) (w : List Float) : Type 0 where
   pub some : 0 < len
-  pub small : len ≤ 512
-  pub few : blocks ≤ 131072
   pub inside : blocks * len ≤ 1048576
   pub room : 32 * blocks ≤ length w
 
 pub counted : (iq : List Float) (fs : Float) (len blocks : ℕ) (w : List Float)
-    → Iq iq → Rate fs → len ≡ window_of fs → blocks ≡ window.blocks iq len → 4 * step_blocks iq fs ≤ length w → Counted iq fs len blocks w
-counted iq fs len blocks w i r e b h =
+    → Iq iq → len ≡ window_of fs → blocks ≡ window.blocks iq len → 4 * step_blocks iq fs ≤ length w → Counted iq fs len blocks w
+counted iq fs len blocks w i e b h =
     let low : 1 ≤ step_of fs = step_low fs in
     let eight : 8 ≤ len = omega (arith, e) in
     let all : blocks ≡ window.blocks iq (window_of fs) = rw e at b in
@@ -48,8 +46,6 @@ counted iq fs len blocks w i r e b h =
     let whole : blocks * len ≤ 1048576 = rw b (omega (arith, div-mul-le_self (samples iq) len, i.short)) in
     record {
       some = omega arith;
-      small = omega (arith, e, step_high fs r);
-      few = omega (arith, mul-le-mul_left blocks eight);
       inside = whole;
       room = omega (arith, all);
     }

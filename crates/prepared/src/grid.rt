@@ -1,20 +1,25 @@
-// The blocks that a measure looks at: the samples and their rate, the carrier of the estimate, how many samples a block
-// has, and how many whole blocks there are. Rust: fs, est.carrier_hz, len and z.len() in both measures.
+// The blocks that a measure looks at. Rust: fs, len, z.len() and est.carrier_hz in both measures.
 ghost use Rattle.std.specs.Prelude.{◌≡◌, ◌*◌, ◌/◌, ◌≤◌, ◌<◌, length};
 ghost use Rattle.row.specs.Window.{window_of};
 
-use row::{SampleRate, Samples};
+use row::Samples;
 
+// A sample rate, how many samples a block has, and how many blocks there are.
+#[derive(Clone, Copy)]
+pub struct Blocks {
+    pub fs: f64,
+    pub window: usize,
+    pub count: usize,
+    pub ghost some: { 0 < window },
+    pub ghost inside: { count * window ≤ 1048576 },
+}
+
+// The whole blocks of a recording, and the carrier of an estimate.
 #[derive(Clone, Copy)]
 pub struct Grid<'a> {
     pub samples: Samples<'a>,
-    pub rate: SampleRate,
     pub carrier: f64,
-    pub window: usize,
-    pub blocks: usize,
-    pub ghost window_is: { window ≡ window_of rate.hz },
-    pub ghost blocks_are: { blocks ≡ length samples.iq.now / 2 / window },
-    pub ghost some: { 0 < window },
-    pub ghost few: { blocks ≤ 131072 },
-    pub ghost inside: { blocks * window ≤ 1048576 },
+    pub blocks: Blocks,
+    pub ghost window_is: { blocks.window ≡ window_of blocks.fs },
+    pub ghost blocks_are: { blocks.count ≡ length samples.iq.now / 2 / blocks.window },
 }

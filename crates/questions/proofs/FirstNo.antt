@@ -4,7 +4,7 @@ use native.Mathlib.Omega.{arith}
 use mathlib.Core.Path.{◌≡◌, refl}
 use mathlib.Core.Logic.{◌⊎◌, inl, inr, ⊎_elim}
 use mathlib.Core.Bool.{Bool, true, false, ◌&&◌, false≢true}
-use mathlib.Core.List.{List, [], ◌∷◌, ◌++◌, Memᴰ}
+use mathlib.Core.List.{List, [], ◌∷◌, Memᴰ}
 use lib.Dec.{ltb}
 use Rattle.lists.proofs.Every.{and_right}
 use Rattle.questions.specs.Questions.{Asked, ask, first_no}
@@ -47,18 +47,3 @@ unfolding first_no
 first_asked [] = inl refl
 first_asked (ask n true ∷ qs) = ⊎_elim (λ e. inl e) (λ m. inr (Memᴰ.tail m)) (first_asked qs)
 first_asked (ask n false ∷ qs) = inr (Memᴰ.head refl)
-
--- ---- questions that go on after others: a no before them is the result, and else theirs is
-
-pub before_no : (qs rs : List Asked) (r : ℕ) → r ≡ first_no qs → (r ≡ 0 → ⊥) → r ≡ first_no (qs ++ rs)
-unfolding first_no
-before_no [] rs r e h = absurd (h e)
-before_no (ask n true ∷ qs) rs r e h = before_no qs rs r e h
-before_no (ask n false ∷ qs) rs r e h = e
-
-pub before_yes : (qs rs : List Asked) (first r : ℕ) → first ≡ first_no qs → first ≡ 0 → numbered qs ≡ true → r ≡ first_no rs → r ≡ first_no (qs ++ rs)
-unfolding first_no
-before_yes [] rs first r e z p h = h
-before_yes (ask n true ∷ qs) rs first r e z p h = before_yes qs rs first r e z (and_right (ltb 0 n) (numbered qs) p) h
-before_yes (ask zero false ∷ qs) rs first r e z p h = absurd (false≢true p)
-before_yes (ask (suc n) false ∷ qs) rs first r e z p h = let never : ⊥ = omega arith in absurd never

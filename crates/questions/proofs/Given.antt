@@ -1,19 +1,16 @@
 -- Question 7: the functions that ask it, and what a yes says of the given records. Assumes nothing.
-use Prim.Native.Nat.{ℕ, zero, suc, ◌*◌, ◌/◌, ◌<◌, ◌≤◌}
+use Prim.Native.Nat.{ℕ, ◌+◌, ◌*◌, ◌/◌, ◌<◌, ◌≤◌}
+use native.Mathlib.Numerals.{add-one}
 use native.Mathlib.Omega.{arith}
-use mathlib.Core.Path.{◌≡◌, refl, sym}
+use mathlib.Core.Path.{◌≡◌}
 use mathlib.Core.Bool.{Bool, true, false, ◌&&◌}
 use mathlib.Core.List.{List}
 use lib.Dec.{T, leb}
 use lib.ListN.{length}
 use lib.Ieee.{Float}
 use borrow.Author.Tests.{le-leb, lt-leb, leb-true}
-use Rattle.std.proofs.lemmas.List.FromFn.{length-range_with_len, get_or-range_with_len}
-use Rattle.std.proofs.Common.{zero-add}
-use Rattle.std.specs.Bool.{MatchBool}
-use Rattle.std.specs.List.{AllWithin, HoldsAt, range_with_len}
 use Rattle.lists.specs.Every.{every}
-use Rattle.lists.proofs.Every.{every_at, every_not, and_left, and_right}
+use Rattle.lists.proofs.Every.{every_at, every_not, every_cong, and_left, and_right}
 use Rattle.float.specs.Size.{finite_f, sized}
 use Rattle.float.proofs.Compared.{yes}
 use Rattle.elements.specs.declared.element.KeyedElement.{KeyedElement}
@@ -25,30 +22,27 @@ use Rattle.questions.specs.Questions.{size_ok, position_ok, element_ok, all_ok, 
 
 -- ---- the look at each given record
 
-every_all : (p : ℕ → Bool) (n : ℕ) → ((k : ℕ) → k < n → p k ≡ true) → every p n ≡ true
-every_all p zero h = refl
-every_all p (suc n) h = rw (every_all p n (λ k b. h k (omega arith)), h n (omega arith))
-
--- the chain over the numbers below `count`, as it answers
-abbrev Told : (ℕ → Bool) → ℕ → Bool → Type 0
-Told p n t =
-    let ks = range_with_len 0 n in
-    MatchBool t (AllWithin (λ k. p k ≡ true) ks 0 (length ks)) ((i : ℕ) × (i < length ks) × HoldsAt (λ k. p k ≡ false) ks i)
-
-every_told : (p : ℕ → Bool) (n : ℕ) (t : Bool) → Told p n t → t ≡ every p n
-every_told p n true h = sym (every_all p n (λ k b. rw (get_or-range_with_len 0 n k 0 b, zero-add) at (h k 0 (omega arith) (rw length-range_with_len b))))
-every_told p n false h =
-    let below : h.0 < n = (rw length-range_with_len at h.1) in
-    sym (every_not p n h.0 below (rw (get_or-range_with_len 0 n h.0 0 below, zero-add) at (h.2 0)))
+module _ (p : ℕ → Bool) where
+  pub every_turn : (n : ℕ) → every p n ≡ true → p n ≡ true → every p (n + 1) ≡ true
+  every_turn n e f = rw (add-one, e, f)
 
 module _ {A : Type 0} (ok : A → Bool) (at : ℕ → A) where
-  pub all_told : (places count : ℕ) (t : Bool) → count ≤ places → Told (λ k. ok (at k)) count t → t ≡ all_ok ok at places count
-  unfolding all_ok
-  all_told places count t f h = rw (le-leb count places f) (every_told (λ k. ok (at k)) count t h)
-
-  pub ok_over : (places count : ℕ) → places < count → leb count places ≡ all_ok ok at places count
+  pub ok_over : (places count : ℕ) → places < count → false ≡ all_ok ok at places count
   unfolding all_ok
   ok_over places count h = rw (lt-leb count places h)
+
+  pub ok_not : (places count k : ℕ) → count ≤ places → k < count → ok (at k) ≡ false → false ≡ all_ok ok at places count
+  unfolding all_ok
+  ok_not places count k f h e = rw (le-leb count places f, every_not (λ k. ok (at k)) count k h e)
+
+  pub ok_done : (places count n : ℕ) → count ≤ places → every (λ k. ok (at k)) n ≡ true → n ≡ count → true ≡ all_ok ok at places count
+  unfolding all_ok
+  ok_done places count n f e q = rw (le-leb count places f, ← q, e)
+
+  -- the records may be told by other means
+  pub ok_same : {B : Type 0} (other : B → Bool) (from : ℕ → B) (places count : ℕ) → ((k : ℕ) → k < count → other (from k) ≡ ok (at k)) → all_ok other from places count ≡ all_ok ok at places count
+  unfolding all_ok
+  ok_same other from places count h = rw (every_cong (λ k. other (from k)) (λ k. ok (at k)) count h)
 
   -- what a yes says: the count fits, and each record is accepted
   pub all_fit : (places count : ℕ) → all_ok ok at places count ≡ true → count ≤ places

@@ -6,14 +6,16 @@
 mod estimate;
 mod refusals;
 
-ghost use Rattle.std.specs.Prelude.{◌≡◌, ◌/◌, [], ◌∷◌};
+ghost use Rattle.std.specs.Prelude.{◌≡◌, ◌/◌, ◌<◌, Bool, List, [], ◌∷◌, length, get_or, Float};
+ghost use Rattle.std.specs.Fn.{FnReturnsAt};
+ghost use Rattle.std.specs.Simd.{first_chunks};
 ghost use Rattle.row.specs.Window.{step_blocks};
 ghost use Rattle.row.specs.Envelope.{row_length};
 ghost use Rattle.classes.specs.Classify.{blocks_of};
 ghost use Rattle.questions.specs.Refusals.{number_of, no_of};
-ghost use Rattle.questions.specs.Questions.{blocks_for, ask, first_no, recording_questions, count_ok, carrier_ok, places_ok, work_ok, size_ok, position_ok, element_ok, elements_ok, fit_ok, fits_ok, estimate_ok, estimate_questions, measure_questions};
+ghost use Rattle.questions.specs.Questions.{blocks_for, ask, first_no, recording_questions, count_ok, carrier_ok, places_ok, work_ok, size_ok, position_ok, element_ok, all_ok, elements_ok, fit_ok, fits_ok, estimate_ok, estimate_questions, measure_questions};
 
-use elements::{ELEMENT, KeyedElement, element_at};
+use elements::{ELEMENT, KeyedElement, Places, element_at};
 pub use estimate::GivenEstimate;
 use fits::{ElementFit, FIT, fit_at};
 pub use refusals::Refusal;
@@ -121,7 +123,6 @@ fn size_ok(x: f64) -> bool
 }
 
 // 7: a given up or down is a whole number from 0, below 2^20.
-
 fn position_ok(x: f64) -> bool
     ensures { result ≡ position_ok x }
 {
@@ -136,11 +137,30 @@ fn element_ok(e: KeyedElement) -> bool
     size_ok(e.start) && size_ok(e.end) && position_ok(e.up) && position_ok(e.down)
 }
 
+// 7, of given records, each in a place of WIDTH numbers: the count fits their list, and every record is accepted. WIDTH
+// is small, so that the size of a place in bytes is a number of 64 bits.
+fn records_ok<const WIDTH: usize, F: Fn(&[f64]) -> bool>(list: &[f64], count: usize, ok: F) -> bool
+    requires width { (0 < WIDTH) × (WIDTH < 64) }
+    requires callable { (x : _) → length x.now ≡ WIDTH → F.pre ok x }
+    ensures { (p : List Float → Bool) → ((x : List Float) (t : Bool) → FnReturnsAt F.Fn ok x t → t ≡ p x)
+        → result ≡ all_ok p (λ k. get_or (first_chunks WIDTH count list.now) k []) (length list.now / WIDTH) count }
+{
+    if count > list.len() / WIDTH {
+        return false;
+    }
+    for place in Places::<WIDTH>::new(list, count).each() {
+        if !ok(place) {
+            return false;
+        }
+    }
+    true
+}
+
 // 7, of given elements: the count fits its list, and every element is accepted.
 pub fn elements_ok(list: &[f64], count: usize) -> bool
     ensures { result ≡ elements_ok list.now count }
 {
-    count <= list.len() / ELEMENT && (0..count).all(|p| element_ok(element_at(list, p)))
+    records_ok::<ELEMENT, _>(list, count, |place| element_ok(element_at(place, 0)))
 }
 
 // 7, of a fit.
@@ -160,7 +180,7 @@ fn fit_ok(f: ElementFit) -> bool
 pub fn fits_ok(list: &[f64], count: usize) -> bool
     ensures { result ≡ fits_ok list.now count }
 {
-    count <= list.len() / FIT && (0..count).all(|p| fit_ok(fit_at(list, p)))
+    records_ok::<FIT, _>(list, count, |place| fit_ok(fit_at(place, 0)))
 }
 
 // 7, of a given estimate.

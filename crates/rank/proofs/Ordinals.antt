@@ -12,22 +12,18 @@ use Rattle.std.proofs.lemmas.Bool.Decides.{nat_tests}
 use lib.Dec.{T, ltb, eqb}
 use lib.Ieee.{Float, nan, inf, fin, Format, lt, eq, odd, neg, of_fields, of_bits, to_bits, below, level, binary64, fits, is_nan, nan_bits, prec, low, ones, hid}
 use lib.Ieee.Exact.{HasValue}
-use lib.Ieee.Bits.{of_bits-to_bits, to_bits-lt, nan_bits_above}
-use lib.Arith.{le→nltb}
+use lib.Ieee.Bits.{of_bits-to_bits, to_bits-lt}
+use Rattle.std.proofs.lemmas.Float.{not_nan_f64_bits}
 use Rattle.float.specs.Inner.{counted}
 use Rattle.float.proofs.Value.{counted_value}
+use Rattle.float.proofs.Exactly.{neg_odd}
 use Rattle.float.proofs.Patterns.{of_bits_fields}
 use Rattle.float.proofs.Narrowing.{magnitude_le}
 use Rattle.rank.specs.Order.{precedes}
-use Rattle.rank.specs.Inner.{ordinal_bits, ordinal_of, value_of, Ordinal}
+use Rattle.rank.specs.Inner.{ordinal_bits, ordinal_of, of_ordinal, Ordinal}
 use Rattle.rank.proofs.Patterns.{top, Pattern, lt_pattern, eq_pattern, zero_pattern}
 
 -- ---- a pattern with the sign is that of the negated value
-neg_odd : (d q k l : ℕ) → odd d true q k l ≡ neg (odd d false q k l)
-unfolding odd neg
-neg_odd d zero k l = refl
-neg_odd d (suc q) k l = refl
-
 neg_cond : (a b : Bool) (x y : Float) → x ≡ neg y → cond a (cond b (inf true) nan) x ≡ neg (cond a (cond b (inf false) nan) y)
 unfolding neg
 neg_cond true true x y e = refl
@@ -36,8 +32,8 @@ neg_cond false b x y e = e
 
 neg_fields : (f : Format) (x t : ℕ) → of_fields f true x t ≡ neg (of_fields f false x t)
 unfolding of_fields
-neg_fields f zero t = neg_odd (prec f) t 0 (low f)
-neg_fields f (suc x) t = neg_cond (eqb (suc x) (ones f)) (eqb t 0) (odd (prec f) true (hid f + t) x (low f)) (odd (prec f) false (hid f + t) x (low f)) (neg_odd (prec f) (hid f + t) x (low f))
+neg_fields f zero t = sym (neg_odd (prec f) false t 0 (low f))
+neg_fields f (suc x) t = neg_cond (eqb (suc x) (ones f)) (eqb t 0) (odd (prec f) true (hid f + t) x (low f)) (odd (prec f) false (hid f + t) x (low f)) (sym (neg_odd (prec f) false (hid f + t) x (low f)))
 
 minus_bits : (p : ℕ) → p < 2 ^ 63 → of_bits binary64 (2 ^ 63 + p) ≡ neg (of_bits binary64 p)
 minus_bits p h =
@@ -84,18 +80,18 @@ ordinal_plus b h = ap (λ (t : Bool). cond t (b + 2 ^ 63) (2 ^ 64 - 1 - b)) (lt-
 pub ordinal_minus : (b : ℕ) → 2 ^ 63 ≤ b → ordinal_bits b ≡ 2 ^ 64 - 1 - b
 ordinal_minus b h = ap (λ (t : Bool). cond t (b + 2 ^ 63) (2 ^ 64 - 1 - b)) (le-ltb b (2 ^ 63) h)
 
-pub value_low : (k : ℕ) → k < 2 ^ 63 → value_of k ≡ of_bits binary64 (2 ^ 64 - 1 - k)
-unfolding value_of
+pub value_low : (k : ℕ) → k < 2 ^ 63 → of_ordinal k ≡ of_bits binary64 (2 ^ 64 - 1 - k)
+unfolding of_ordinal
 value_low k h = rw (ne_eqb k (2 ^ 64 - 1) (omega arith), lt-ltb k (2 ^ 63) h)
 
-pub value_high : (k : ℕ) → 2 ^ 63 ≤ k → k < 2 ^ 64 - 1 → value_of k ≡ of_bits binary64 (k - 2 ^ 63)
-unfolding value_of
+pub value_high : (k : ℕ) → 2 ^ 63 ≤ k → k < 2 ^ 64 - 1 → of_ordinal k ≡ of_bits binary64 (k - 2 ^ 63)
+unfolding of_ordinal
 value_high k h l = rw (ne_eqb k (2 ^ 64 - 1) (omega arith), le-ltb k (2 ^ 63) h)
 
 -- ---- every f64 is the NaN or has a sign and a pattern
 pub data View : Float → Type 0 where
   missing : View nan
-  signed : {x : Float} (s : Bool) (p : ℕ) → p ≤ top → Pattern x s p → ordinal_of x ≡ sign_ordinal s p → value_of (sign_ordinal s p) ≡ x → View x
+  signed : {x : Float} (s : Bool) (p : ℕ) → p ≤ top → Pattern x s p → ordinal_of x ≡ sign_ordinal s p → of_ordinal (sign_ordinal s p) ≡ x → View x
 
 number : (x : Float) → T (not (is_nan x)) → T (fits binary64 x) → View x
 number x n f = go (dec_lt b (2 ^ 63))
@@ -133,16 +129,16 @@ pub ordinal_nan : ordinal_of nan ≡ 2 ^ 64 - 1
 unfolding ordinal_of is_nan
 ordinal_nan = refl
 
-pub value_nan : value_of (2 ^ 64 - 1) ≡ nan
-unfolding value_of
+pub value_nan : of_ordinal (2 ^ 64 - 1) ≡ nan
+unfolding of_ordinal
 value_nan = refl
 
-pub value_ordinal : (x : Float) → T (fits binary64 x) → value_of (ordinal_of x) ≡ x
+pub value_ordinal : (x : Float) → T (fits binary64 x) → of_ordinal (ordinal_of x) ≡ x
 value_ordinal x f = go x (view x f)
   where
-    go : (x : Float) → View x → value_of (ordinal_of x) ≡ x
-    go x missing = ap value_of ordinal_nan ∙ value_nan
-    go x (signed s p m h k v) = ap value_of k ∙ v
+    go : (x : Float) → View x → of_ordinal (ordinal_of x) ≡ x
+    go x missing = ap of_ordinal ordinal_nan ∙ value_nan
+    go x (signed s p m h k v) = ap of_ordinal k ∙ v
 
 pub is_ordinal : (x : Float) → T (fits binary64 x) → Ordinal (ordinal_of x)
 is_ordinal x f = go x (view x f)
@@ -156,7 +152,7 @@ pub ordinal_lt : (x : Float) → T (fits binary64 x) → ordinal_of x < 2 ^ 64
 ordinal_lt x f = elim (is_ordinal x f) [ inl e ↦ omega arith | inr h ↦ omega arith ]
 
 pub ordinal_injective : (x y : Float) → T (fits binary64 x) → T (fits binary64 y) → ordinal_of x ≡ ordinal_of y → x ≡ y
-ordinal_injective x y f g e = sym (value_ordinal x f) ∙ ap value_of e ∙ value_ordinal y g
+ordinal_injective x y f g e = sym (value_ordinal x f) ∙ ap of_ordinal e ∙ value_ordinal y g
 
 -- ---- the order
 abbrev ordered : Bool → ℕ → Bool → ℕ → Bool
@@ -200,16 +196,13 @@ precedes_ordinal x y f g = go x y (view x f) (view y g)
     go x y (signed s p m h k v) (signed t q m' h' k' v') = by_patterns x y s t p q h h' ∙ order s p t q m m' ∙ rw (k, k')
 
 -- ---- back from an ordinal: no pattern of a NaN
-number_bits : (n : ℕ) → n % 2 ^ 63 ≤ top → T (not (nan_bits binary64 n))
-number_bits n h = subst (λ (b : Bool). T (not b)) (sym (nan_bits_above binary64 n)) (le→nltb top (n % 2 ^ 63) h)
-
 pub low_number : (k : ℕ) → Ordinal k → k < 2 ^ 63 → T (not (nan_bits binary64 (2 ^ 64 - 1 - k)))
 low_number k (inl e) h = absurd (omega arith)
-low_number k (inr r) h = number_bits (2 ^ 64 - 1 - k) (omega arith)
+low_number k (inr r) h = not_nan_f64_bits (2 ^ 64 - 1 - k) (omega arith)
 
 pub high_number : (k : ℕ) → Ordinal k → (k ≡ 2 ^ 64 - 1 → ⊥) → T (not (nan_bits binary64 (k - 2 ^ 63)))
 high_number k (inl e) n = absurd (n e)
-high_number k (inr r) n = number_bits (k - 2 ^ 63) (omega arith)
+high_number k (inr r) n = not_nan_f64_bits (k - 2 ^ 63) (omega arith)
 
 pub ordinal_under : (k : ℕ) → Ordinal k → (k ≡ 2 ^ 64 - 1 → ⊥) → k < 2 ^ 64 - 1
 ordinal_under k (inl e) n = absurd (n e)

@@ -46,9 +46,6 @@ cross x c a de dd p = simp (mul_assoc, mul_comm) (simp mul_assoc at (ap (λ (z :
 cross' : (y c b de dd : ℕ) → y * c ≡ b * dd → y * de * c ≡ b * (de * dd)
 cross' y c b de dd p = simp (mul_assoc, mul_comm) (simp (mul_assoc, mul_comm) at (ap (λ (z : ℕ). z * de) p))
 
-none : (c k : ℕ) → 0 * c ≡ 0 * k
-none c k = omega arith
-
 both : (x y c a b k : ℕ) → x * c ≡ a * k → y * c ≡ b * k → (x + y) * c ≡ (a + b) * k
 both x y c a b k p q = rw (add-mul x y c, p, q, ← add-mul)
 
@@ -57,7 +54,7 @@ nought zero u d c D p = refl
 nought (suc a) u d c D p = let l : 0 < suc a * d = mul-pos (zero-lt-suc a) D in let z : 0 * u * c ≡ 0 = rw (zero-mul, zero-mul) in omega arith
 
 some : (a m u d c : ℕ) → 0 < u → 0 < c → suc m * u * c ≡ a * d → a ≡ 0 → ⊥
-some a m u d c U C p e = let l : 0 < suc m * u * c = mul-pos (mul-pos (zero-lt-suc m) U) C in let z : a * d ≡ 0 = rw e (none d 0) in omega arith
+some a m u d c U C p e = let l : 0 < suc m * u * c = mul-pos (mul-pos (zero-lt-suc m) U) C in let z : a * d ≡ 0 = rw e (omega arith) in omega arith
 
 module _ (c : ℕ) (C : 0 < c) (a b : ℕ) where
   lt_fin : (s : Bool) (m : ℕ) (e : ℤ) (t : Bool) (n : ℕ) (d : ℤ) → m * up e * c ≡ a * down e → n * up d * c ≡ b * down d → lt (fin s m e) (fin t n d) ≡ below s a t b
@@ -65,7 +62,7 @@ module _ (c : ℕ) (C : 0 < c) (a b : ℕ) where
   lt_fin false m e false n d p q = same_ltb c (down e * down d) (m * up e * down d) (n * up d * down e) a b C (mul-pos (down_pos e) (down_pos d)) (cross (m * up e) c a (down e) (down d) p) (cross' (n * up d) c b (down e) (down d) q)
   lt_fin false m e true n d p q = refl
   lt_fin true m e false n d p q =
-      same_ltb c (down e * down d) 0 (m * up e * down d + n * up d * down e) 0 (a + b) C (mul-pos (down_pos e) (down_pos d)) (none c (down e * down d))
+      same_ltb c (down e * down d) 0 (m * up e * down d + n * up d * down e) 0 (a + b) C (mul-pos (down_pos e) (down_pos d)) (omega arith)
       (both (m * up e * down d) (n * up d * down e) c a b (down e * down d) (cross (m * up e) c a (down e) (down d) p) (cross' (n * up d) c b (down e) (down d) q))
   lt_fin true m e true n d p q = same_ltb c (down e * down d) (n * up d * down e) (m * up e * down d) b a C (mul-pos (down_pos e) (down_pos d)) (cross' (n * up d) c b (down e) (down d) q) (cross (m * up e) c a (down e) (down d) p)
 
@@ -76,7 +73,7 @@ module _ (c : ℕ) (C : 0 < c) (a b : ℕ) where
       let K : 0 < k = mul-pos (down_pos e) (down_pos d) in
       let l = cross (m * up e) c a (down e) (down d) p in
       ap (λ (z : Bool). z && (beq s t || eqb (m * up e * down d) 0)) (same_eqb c k (m * up e * down d) (n * up d * down e) a b C K l (cross' (n * up d) c b (down e) (down d) q))
-      ∙ ap (λ (z : Bool). eqb a b && (beq s t || z)) (same_eqb c k (m * up e * down d) 0 a 0 C K l (none c k))
+      ∙ ap (λ (z : Bool). eqb a b && (beq s t || z)) (same_eqb c k (m * up e * down d) 0 a 0 C K l (omega arith))
 
   zero_fin : (s : Bool) (m : ℕ) (e : ℤ) → m * up e * c ≡ a * down e → is_minus_zero (fin s m e) ≡ s && eqb a 0
   unfolding is_minus_zero

@@ -15,32 +15,26 @@ use Rattle.std.proofs.lemmas.Bool.Decides.{nat_tests}
 use lib.Dec.{T, ltb}
 use lib.ListN.{length, get_or}
 use lib.Ieee.{Float, nan, binary64, fits}
+pub use Rattle.std.specs.List.{AllByRecursion as Every}
+use Rattle.std.proofs.lemmas.List.Elements.{All-get_or, All-from_get_or, All-weaker, All-from_recursion, recursion_from_All}
 use Rattle.rank.specs.Order.{precedes, insert, sorted, before, up_to}
 use Rattle.lists.specs.Count.{count_to}
 use Rattle.rank.specs.Select.{rank_of, percentile_of}
-use Rattle.rank.specs.Inner.{ordinal_of, ordinal_at, below, RankIn, Selected, Ordinal, value_of}
+use Rattle.rank.specs.Inner.{ordinal_of, ordinal_at, below, RankIn, Selected, Ordinal, of_ordinal}
 use Rattle.rank.proofs.Ordinals.{precedes_ordinal, ordinal_injective, value_ordinal, is_ordinal}
 use Rattle.lists.proofs.Count.{bit, count_cong, count_le}
 use Rattle.rank.proofs.Counted.{below_next, count_front}
-
--- ---- what holds of every element
-abbrev pub Every : (Float → Type 0) → List Float → Type 0
-Every P [] = Unit {0}
-Every P (x ∷ xs) = P x × Every P xs
 
 -- every element is an f64, as every list that a slice holds is
 abbrev pub Held : List Float → Type 0
 Held l = Every (λ x. T (fits binary64 x)) l
 
 pub held : (l : List Float) → ((i : ℕ) → T (fits binary64 (get_or l i nan))) → Held l
-held [] h = tt
-held (x ∷ xs) h = (h 0, held xs (λ (i : ℕ). h (suc i)))
+held l h = recursion_from_All (λ x. T (fits binary64 x)) l (All-from_get_or (λ x. T (fits binary64 x)) l nan (λ i _. h i))
 
 module _ (P : Float → Type 0) where
   pub every_at : (l : List Float) → Every P l → (i : ℕ) → i < length l → P (get_or l i nan)
-  every_at [] h i b = absurd (omega arith)
-  every_at (x ∷ xs) h zero b = h.0
-  every_at (x ∷ xs) h (suc i) b = every_at xs h.1 i (le_of_suc-le-suc b)
+  every_at l h i b = All-get_or P l i nan b (All-from_recursion P l h)
 
   every_cond : (b : Bool) (l m : List Float) → Every P l → Every P m → Every P (cond b l m)
   every_cond true l m h k = h
@@ -103,8 +97,8 @@ Ascending [] = Unit {0}
 Ascending (x ∷ xs) = From (ordinal_of x) xs × Ascending xs
 
 from_less : (j k : ℕ) → j ≤ k → (l : List Float) → From k l → From j l
-from_less j k h [] f = tt
-from_less j k h (x ∷ xs) f = (le_trans h f.0, from_less j k h xs f.1)
+from_less j k h l f =
+    recursion_from_All _ l (All-weaker (λ y. k ≤ ordinal_of y) (λ y. j ≤ ordinal_of y) (λ y. le_trans h) l (All-from_recursion _ l f))
 
 insert_ascending : (x : Float) (l : List Float) → T (fits binary64 x) → Held l → Ascending l → Ascending (insert x l)
 unfolding insert
@@ -234,6 +228,6 @@ selected l f {r} {k} {left} b w = let h = held l f in record { same = ranked_uni
 pub selected_ordinal : {l : List Float} {r k : ℕ} → Selected l r k → Ordinal k
 selected_ordinal {l} {r} s = subst Ordinal (sym s.same) (is_ordinal (get_or (sorted l) r nan) s.held)
 
-pub percentile_selected : (l : List Float) (p : Float) (r k : ℕ) (v : Float) → 0 < length l → r ≡ rank_of (length l) p → Selected l r k → v ≡ value_of k → Some v ≡ percentile_of l p
+pub percentile_selected : (l : List Float) (p : Float) (r k : ℕ) (v : Float) → 0 < length l → r ≡ rank_of (length l) p → Selected l r k → v ≡ of_ordinal k → Some v ≡ percentile_of l p
 percentile_selected l p r k v h e s i =
-    ap Some (i ∙ ap value_of s.same ∙ value_ordinal (get_or (sorted l) r nan) s.held ∙ ap (λ (j : ℕ). get_or (sorted l) j nan) e) ∙ percentile_some l p h
+    ap Some (i ∙ ap of_ordinal s.same ∙ value_ordinal (get_or (sorted l) r nan) s.held ∙ ap (λ (j : ℕ). get_or (sorted l) j nan) e) ∙ percentile_some l p h

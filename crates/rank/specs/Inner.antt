@@ -14,8 +14,8 @@ unfoldable pub ordinal_of : Float → ℕ
 ordinal_of x = cond (is_nan x) (2 ^ 64 - 1) (ordinal_bits (to_bits binary64 x))
 
 -- the value of an ordinal
-unfoldable pub value_of : ℕ → Float
-value_of k = cond (eqb k (2 ^ 64 - 1)) nan (of_bits binary64 (cond (ltb k (2 ^ 63)) (2 ^ 64 - 1 - k) (k - 2 ^ 63)))
+unfoldable pub of_ordinal : ℕ → Float
+of_ordinal k = cond (eqb k (2 ^ 64 - 1)) nan (of_bits binary64 (cond (ltb k (2 ^ 63)) (2 ^ 64 - 1 - k) (k - 2 ^ 63)))
 
 -- an ordinal that some value has: a NaN's, or one from −∞'s to +∞'s
 abbrev pub Ordinal : ℕ → Type 0

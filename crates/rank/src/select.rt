@@ -6,7 +6,7 @@ ghost use Rattle.std.specs.Prelude.{◌≡◌, ◌==◌, ◌+◌, ◌*◌, ◌/�
 ghost use Rattle.rank.specs.Select.{rank_of, percentile_of};
 ghost use Rattle.rank.specs.Inner.{
   ordinal_of,
-  value_of,
+  of_ordinal,
   Ordinal,
   ordinal_at,
   cell,
@@ -85,7 +85,7 @@ fn ordinal(x: f64) -> u64
 // The value that has the ordinal k.
 fn value(k: u64) -> f64
     requires { Ordinal k }
-    ensures { result ≡ value_of k }
+    ensures { result ≡ of_ordinal k }
 {
     if k == u64::MAX {
         return f64::NAN;
@@ -268,8 +268,8 @@ fn alike(v: &[f64]) -> bool
 
 // The ordinal at a rank, in digits from the top: short ones for a short list, where the histogram costs more than the
 // pass. Most lists do not need all of them: where only one value begins with the digits so far, it is the one. Where a
-// quarter of the values begins with digits that reach behind the exponent, or where all are expected to be nearly equal,
-// the bits that these have in common are skipped.
+// quarter of the values begins with digits that reach behind the exponent, or where all are expected to be nearly
+// equal, the bits that these have in common are skipped.
 fn select(v: &[f64], rank: u64) -> u64
     requires v_len_bound { length v.now ≤ 2097152 }
     requires rank_in_bounds { rank < length v.now }
@@ -286,6 +286,8 @@ fn select(v: &[f64], rank: u64) -> u64
         cell = cell.narrowed(values);
     }
     let mut left = rank;
+    // How many digits there are shows only on the way, since a cell may be narrowed by any number of bits: there is
+    // nothing that a `for` could go over.
     while 0 < cell.shift {
         let digits = cell.digits(bits);
         let place = digits.pass(values, left);

@@ -69,7 +69,7 @@ pub fn fit(case: Case, lent: Lent) -> Answered {
         a.fs,
         a.hint_hz,
         case.given_elements(),
-        a.element_count,
+        a.given_elements.count,
         fits,
         work,
     ) {
@@ -103,6 +103,7 @@ pub fn residual(case: Case, lent: Lent) -> Answered {
     }
 }
 
+// As residual, of another call with other figures: one function for both would take two closures.
 pub fn evidence(case: Case, lent: Lent) -> Answered {
     let a = case.asked;
     let work = lent.work;
@@ -140,7 +141,8 @@ pub fn subtract(case: Case, lent: Lent) -> Answered {
     }
 }
 
-// What an accepted run found; `buf` is the buffer that it left.
+// What an accepted run found, the hypothesis by the number that the file and the figures have; `buf` is the buffer that
+// it left.
 fn found(case: Case, f: RunFigures, buf: &[f32]) -> Found {
     let h = case_of(f.hypothesis);
     Found {

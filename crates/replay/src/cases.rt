@@ -1,6 +1,7 @@
 // A stored case, and what its call is lent: as many numbers as the case names. Lists and work slice hold one number
 // before the call, so that it shows where a call wrote.
 ghost use Rattle.std.specs.Prelude.{◌≡◌, take};
+ghost use Rattle.replay.specs.Cases.{CaseCounted};
 
 use crate::calls;
 use crate::kept::Kept;
@@ -25,6 +26,8 @@ pub struct Case<'a> {
 }
 
 impl<'a> Case<'a> {
+    ghost use Rattle.std.specs.Prelude.{◌≡◌, take};
+
     fn new(body: &'a [u8], kept: &'a Kept) -> Case<'a> {
         let asked = of_case(body);
         Case {
@@ -38,19 +41,29 @@ impl<'a> Case<'a> {
     }
 
     // The first places of the kept elements, as far as a case hands them over.
-    pub fn given_elements(&self) -> &'a [f64] {
-        first(self.stored_elements, self.asked.given_elements)
+    pub fn given_elements(&self) -> &'a [f64]
+        ensures { result.now ≡ take self.now.asked.given_elements.length self.now.stored_elements.now }
+    {
+        first(self.stored_elements, self.asked.given_elements.length)
     }
 
-    pub fn given(&self) -> GivenEstimate<'a> {
+    // The estimate that a case hands over, with the first places of both kept lists.
+    pub fn given(&self) -> GivenEstimate<'a>
+        ensures carrier { (result.carrier_hz ≡ self.now.asked.carrier_hz)
+            × (result.carrier_step_hz ≡ self.now.asked.carrier_step_hz) }
+        ensures elements { (result.elements.now ≡ take self.now.asked.given_elements.length self.now.stored_elements.now)
+            × (result.element_count ≡ self.now.asked.given_elements.count) }
+        ensures fits { (result.fits.now ≡ take self.now.asked.given_fits.length self.now.stored_fits.now)
+            × (result.fit_count ≡ self.now.asked.given_fits.count) }
+    {
         let a = self.asked;
         GivenEstimate {
             carrier_hz: a.carrier_hz,
             carrier_step_hz: a.carrier_step_hz,
             elements: self.given_elements(),
-            element_count: a.element_count,
-            fits: first(self.stored_fits, a.given_fits),
-            fit_count: a.fit_count,
+            element_count: a.given_elements.count,
+            fits: first(self.stored_fits, a.given_fits.length),
+            fit_count: a.given_fits.count,
         }
     }
 }
@@ -72,13 +85,17 @@ fn first<T>(row: &[T], n: usize) -> &[T]
     &row[..end]
 }
 
+// The same of a row that may be written to.
 fn first_mut<T>(row: &mut [T], n: usize) -> &mut [T] {
     let end = n.min(row.len());
     &mut row[..end]
 }
 
 // Asks a call of a case and counts what came of it. What a run found is counted too, where it is not meant to differ.
-pub fn ask(call: Call, meant: bool, body: &[u8], kept: &Kept, tally: &mut Tally) {
+// A table in place of the match would name the eight calls as well, each by a closure.
+pub fn ask(call: Call, meant: bool, body: &[u8], kept: &Kept, tally: &mut Tally)
+    ensures { CaseCounted call meant tally.old tally.new }
+{
     let case = Case::new(body, kept);
     let mut buf = [0.0; FLOATS];
     copied(&kept.iq, &mut buf);

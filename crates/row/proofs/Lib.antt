@@ -5,8 +5,8 @@
 --             `step_low`, `step_high`, `step_mono`; `.max(1.0) as usize`: `max_low`, `max_high`, `max_mono`
 -- Means       blocks lie within the recording: `blocks_short`, `block_fits`; in a loop over blocks, their starts added
 --             up: `start_within`, `raised_fits`, `start_next`, `block_mean_is`
--- Running     the running sum, turn by turn: `run_none`, `run_turn`, `amplitude_is`, `row_done`; a row stored in a part
---             of a list: `fill_front`, `fill_behind`; number i is of the first 8 + i numbers alone: `run_cong`
+-- Running     the running sum, turn by turn: `run_none`, `run_turn`, `amplitude_is`, `row_done`; number i is of the
+--             first 8 + i numbers alone: `run_cong`
 -- Rows        the row in the work slice is that of the block means before it: `row_stored`, `row_part`, `row_is`; how
 --             many amplitudes: `row_none`, `row_some`
 -- Bounds      every amplitude is finite and not negative, at any rate and carrier: `row_amount`; samples, rotor,

@@ -16,7 +16,8 @@ use Rattle.row.specs.Window.{step_of, window_of, samples, step_blocks}
 use Rattle.row.specs.Blocks.{block_mean}
 use Rattle.row.specs.Envelope.{amplitude, row_of, row_length}
 use Rattle.lists.specs.Firsts.{firsts}
-use Rattle.row.proofs.Running.{run_cong, fill_behind}
+use Rattle.lists.proofs.Fill.{fill_behind}
+use Rattle.row.proofs.Running.{run_cong}
 use Rattle.row.proofs.Steps.{step_low}
 use Rattle.lists.proofs.Fill.{part_fill}
 

@@ -1,6 +1,6 @@
 -- The running sum, turn by turn, and the row of amplitudes in a part of a list.
-use Rattle.std.proofs.Common.{◌≡◌, ℕ, zero, suc, ◌+◌, ◌-◌, ◌<◌, ◌≤◌, List, ◌++◌, length, take, drop, refl, add-one, arith}
-use Rattle.std.proofs.lemmas.List.{set-append_left, set-append_right, take-append-drop}
+use Rattle.std.proofs.Common.{◌≡◌, ℕ, zero, suc, ◌+◌, ◌<◌, ◌≤◌, List, ◌++◌, length, take, drop, add-one, arith}
+use Rattle.std.proofs.lemmas.List.{take-append-drop}
 use Rattle.std.proofs.Math.ListN.{set, length-take}
 use Rattle.std.specs.Prelude.{Float}
 use Rattle.float.specs.Ops.{eight}
@@ -9,7 +9,7 @@ use Rattle.complex.specs.Value.{c_norm, c_div}
 use Rattle.complex.specs.Rows.{c_sum}
 use Rattle.complex.proofs.RowLaws.{c_sum_cong}
 use Rattle.lists.specs.Fill.{fill}
-use Rattle.lists.proofs.Fill.{length_fill, fill_turn0}
+use Rattle.lists.proofs.Fill.{fill_turn0, fill_front}
 use Rattle.row.specs.Envelope.{running_sum, amplitude}
 use Rattle.row.specs.Inner.{moved_by}
 
@@ -25,21 +25,6 @@ run_turn z i run r p e = rw (add-one, e, p)
 pub amplitude_is : (z : ℕ → Complex) (i n : ℕ) (run mean : Complex) (v : Float)
     → run ≡ running_sum z i → mean ≡ c_div run eight → v ≡ c_norm mean → i ≤ n → n ≤ i → v ≡ amplitude z n
 amplitude_is z i n run mean v p q e h g = let here : i ≡ n = omega arith in rw (e, q, p, here)
-
--- a row that is stored in the first part of a list, or in what follows it, is stored in the list
-pub fill_front : (xs ys : List Float) (f : ℕ → Float) (n : ℕ) → n ≤ length xs → fill xs 0 f n ++ ys ≡ fill (xs ++ ys) 0 f n
-unfolding fill
-fill_front xs ys f zero h = refl
-fill_front xs ys f (suc n) h =
-    let room : 0 + n < length (fill xs 0 f n) = rw (length_fill xs 0 f n) (omega arith) in
-    rw (← set-append_left (fill xs 0 f n) ys (0 + n) (f n) room, fill_front xs ys f n (omega arith))
-
-pub fill_behind : (xs ys : List Float) (at : ℕ) (f : ℕ → Float) (n : ℕ) → length xs ≡ at → xs ++ fill ys 0 f n ≡ fill (xs ++ ys) at f n
-unfolding fill
-fill_behind xs ys at f zero h = refl
-fill_behind xs ys at f (suc n) h =
-    let here : at + n - at ≡ 0 + n = omega arith in
-    rw (← fill_behind xs ys at f n h, set-append_right xs (fill ys 0 f n) at (at + n) (f n) h (omega arith), here)
 
 -- the last store, past the part that the loop filled
 pub row_done : (l cur : List Float) (f : ℕ → Float) (i n : ℕ) (v : Float)

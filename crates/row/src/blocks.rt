@@ -1,4 +1,5 @@
-// A recording derotated by a carrier, and its means over blocks. A carrier enters as cycles per sample.
+// A recording derotated by a carrier, and its means over blocks. A carrier enters as cycles per sample. It comes beside
+// the samples, and not as one value with them: each function here that takes both is a line or a loop over the next.
 ghost use Rattle.std.specs.Prelude.{◌≡◌, ℕ, ◌+◌, ◌*◌, ◌^◌, ◌<◌, ◌≤◌, length};
 ghost use Rattle.complex.specs.declared.value.Complex.{Complex};
 ghost use Rattle.complex.specs.Rows.{z_fill};
@@ -10,7 +11,9 @@ use crate::recording::Samples;
 use complex::Complex;
 use trig::{Sines, TAU};
 
-// Rust: rotor. The sine table is lent, so that it is made once and not at each call.
+// Rust: rotor. The sine table is lent, so that it is made once and not at each call. Compiled into the loops over the
+// samples: as a call it takes half as long again.
+#[inline(always)]
 pub fn rotor(cyc: f64, k: usize, sine: &Sines) -> Complex
     requires { k ≤ 2 ^ 53 }
     ensures { result ≡ rotor_of cyc k }
@@ -30,8 +33,7 @@ pub fn derotated(samples: &Samples, cyc: f64, k: usize, sine: &Sines) -> Complex
     samples.sample(k).mul(rotor(cyc, k, sine).conj())
 }
 
-// What every sample is multiplied by at carrier 0, where the rotor is (1, 0) at each. It is written out and not asked
-// of `rotor`: with one more caller in this crate `rotor` is not compiled into the loop over the samples.
+// What every sample is multiplied by at carrier 0, where the rotor is (1, 0) at each: no table is read for it.
 fn still_turn() -> Complex
     ensures { result ≡ still_turn }
 {
@@ -46,6 +48,7 @@ fn mean<F: Fn(usize) -> Complex>(a: usize, len: usize, turned: F) -> Complex
 {
     let e = a + len;
     let mut sum = Complex::ZERO;
+    // k is the sample's number: `turned` makes the rotor of it.
     for k in a..e {
         sum = sum.add(turned(k));
     }
@@ -90,6 +93,8 @@ fn means<F: Fn(usize) -> Complex>(out: &mut [f64], n: usize, len: usize, mean: F
     ensures { (f : ℕ → Complex) → Gives (λ b z. F.post mean (b * len) z) n f → out.new ≡ z_fill out.old 0 f n }
 {
     let mut from: usize = 0;
+    // b is the number's place in `out`: of pairs that chunks_exact_mut or as_chunks_mut lends nothing is known once they
+    // are back.
     for b in 0..n {
         let m = mean(from);
         complex::put(out, b, m);

@@ -2,6 +2,7 @@
 #![tactic(auto)]
 
 pub mod blocks;
+pub mod copies;
 pub mod envelope;
 pub mod recording;
 pub mod samples;
@@ -9,6 +10,7 @@ pub mod span;
 pub mod window;
 
 pub use blocks::{block_means, derotated, mean_from, rotor};
+pub use copies::copy;
 pub use envelope::amplitudes;
 pub use recording::{Recording, SampleRate, Samples};
 pub use samples::all_finite;

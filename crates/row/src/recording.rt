@@ -16,6 +16,7 @@ pub struct SampleRate {
 }
 
 impl SampleRate {
+    // The fact stands in a clause where such a value is made, here and in the two `new` below.
     pub fn new(hz: f64) -> SampleRate
         requires { Rate hz }
         ensures { result.hz ≡ hz }

@@ -1,15 +1,12 @@
 -- Where something is counted: in the program's counts by their names, and so at its place among all of them.
-use Rattle.std.proofs.Common.{◌≡◌, ℕ, ◌+◌, ◌-◌, ◌^◌, ◌<◌, ◌≤◌, min, not, Bool, true, false, cond, List, [], ◌∷◌, ◌++◌, length, get_or, nat_lt, refl, sym, ◌∙◌, arith, le-ltb, ne_eqb, lt-ltb, ltb-true, ltb-false, length-append, append_assoc, lit≤, lit<, length-set, Option, Some, None, is_some, unwrap_or}
+use Rattle.std.proofs.Common.{◌≡◌, ℕ, ◌+◌, ◌-◌, ◌^◌, ◌<◌, ◌≤◌, min, not, Bool, true, false, cond, List, [], ◌∷◌, ◌++◌, length, get_or, nat_lt, refl, sym, ◌∙◌, arith, le-ltb, ne_eqb, lt-ltb, ltb-true, ltb-false, length-append, append_assoc, lit≤, length-set, Option, Some, None, is_some, unwrap_or}
 use Rattle.std.specs.Int.{from_bool}
 use Rattle.std.proofs.lemmas.List.{set-append_left, set-append_right, get_or-append-add, set-get_or}
 use Rattle.std.proofs.Math.ListN.{get_or-append}
 use Rattle.std.proofs.Math.Seq.{get_or-append_seam, set-append_seam}
 use Rattle.stored.specs.declared.tally.Tally.{Tally}
-use Rattle.stored.specs.declared.kind.Call.{Call}
-use Rattle.stored.specs.declared.kind.Call.TheVariants.{FindElements, FitElements, EstimateStrong, ResidualCheck, SecondCarrierEvidence, Classify, Subtract, Run}
-use Rattle.stored.specs.Kinds.{call_number}
 use Rattle.stored.specs.Tally.{asked_in, counted_of, ran_of, CALLS, NUMBERS, HYPOTHESES, ASKED, EQUAL, STORED, MEANT, REFUSED, HYPOTHESIS, TAKEN, CHANGED, ENDS, BROKEN, PLACES, place_of, plus, counts}
-use Rattle.stored.specs.Inner.{group_after, in_group, sum_of, added, row_after, broken_after}
+use Rattle.stored.specs.Inner.{in_stored, in_meant, in_group, sum_of, added, row_after, broken_after}
 
 -- ---- a row of counts that stands behind so many others, and what has no place
 module _ (before : List ℕ) (first places k more : ℕ) where
@@ -36,19 +33,45 @@ pub record Long (s : Tally) : Type 0 where
   pub hypotheses : length s.hypotheses ≡ HYPOTHESES
 
 module _ (s : Tally) (l : Long s) (k more : ℕ) where
-  pub at_stored_asked : k < CALLS → plus (STORED + ASKED) CALLS k more (counts s) ≡ counts (record s { stored = record s.stored { asked = added s.stored.asked k more } })
-  at_stored_asked h = in_row [] (STORED + ASKED) CALLS k more s.stored.asked _ refl l.stored_asked h (lit≤ tt)
+  -- what has no place in a row is broken
+  spilt : (first places : ℕ) → places ≤ k → plus first places k more (counts s) ≡ counts (record s { broken = sum_of s.broken more })
+  spilt first places h =
+      simp append_assoc at (no_place (s.stored.asked ++ (s.stored.equal ++ (s.meant.asked ++ (s.meant.equal ++ (s.refused ++ (s.hypotheses ++ (s.taken ∷ s.changed ∷ s.ends ∷ []))))))) first places k more s.broken (simp length-append (omega arith)) h)
 
-  pub at_stored_equal : k < CALLS → plus (STORED + EQUAL) CALLS k more (counts s) ≡ counts (record s { stored = record s.stored { equal = added s.stored.equal k more } })
-  at_stored_equal h = in_row s.stored.asked (STORED + EQUAL) CALLS k more s.stored.equal _ l.stored_asked l.stored_equal h (lit≤ tt)
+  -- so of a row of counts and what is broken, by what the counts are where the row has the place
+  placed : (first places : ℕ) (row : List ℕ) (with : List ℕ → ℕ → Tally) → length row ≡ places
+      → (k < places → plus first places k more (counts s) ≡ counts (with (added row k more) s.broken))
+      → with row (sum_of s.broken more) ≡ record s { broken = sum_of s.broken more }
+      → plus first places k more (counts s) ≡ counts (with (row_after row k more) (broken_after row s.broken k more))
+  placed first places row with e inside outside = of (nat_lt k (length row)) refl
+    where
+      of : (t : Bool) → nat_lt k (length row) ≡ t → plus first places k more (counts s) ≡ counts (with (cond t (added row k more) row) (cond t s.broken (sum_of s.broken more)))
+      of true y = let within = ltb-true k (length row) y in inside (omega arith)
+      of false y = let past = ltb-false k (length row) y in rw outside (spilt first places (omega arith))
 
-  pub at_meant_asked : k < CALLS → plus (MEANT + ASKED) CALLS k more (counts s) ≡ counts (record s { meant = record s.meant { asked = added s.meant.asked k more } })
-  at_meant_asked h =
-      simp append_assoc at (in_row (s.stored.asked ++ s.stored.equal) (MEANT + ASKED) CALLS k more s.meant.asked (s.meant.equal ++ (s.refused ++ (s.hypotheses ++ (s.taken ∷ s.changed ∷ s.ends ∷ s.broken ∷ [])))) (simp length-append (omega arith)) l.meant_asked h (lit≤ tt))
+  pub at_stored_asked : plus (STORED + ASKED) CALLS k more (counts s) ≡ counts (record s { stored = record s.stored { asked = row_after s.stored.asked k more }; broken = broken_after s.stored.asked s.broken k more })
+  at_stored_asked =
+      placed (STORED + ASKED) CALLS s.stored.asked (λ row broken. record s { stored = record s.stored { asked = row }; broken = broken }) l.stored_asked (λ h. in_row [] (STORED + ASKED) CALLS k more s.stored.asked _ refl l.stored_asked h (lit≤ tt)) refl
 
-  pub at_meant_equal : k < CALLS → plus (MEANT + EQUAL) CALLS k more (counts s) ≡ counts (record s { meant = record s.meant { equal = added s.meant.equal k more } })
-  at_meant_equal h =
-      simp append_assoc at (in_row (s.stored.asked ++ (s.stored.equal ++ s.meant.asked)) (MEANT + EQUAL) CALLS k more s.meant.equal (s.refused ++ (s.hypotheses ++ (s.taken ∷ s.changed ∷ s.ends ∷ s.broken ∷ []))) (simp length-append (omega arith)) l.meant_equal h (lit≤ tt))
+  pub at_stored_equal : plus (STORED + EQUAL) CALLS k more (counts s) ≡ counts (record s { stored = record s.stored { equal = row_after s.stored.equal k more }; broken = broken_after s.stored.equal s.broken k more })
+  at_stored_equal =
+      placed (STORED + EQUAL) CALLS s.stored.equal (λ row broken. record s { stored = record s.stored { equal = row }; broken = broken }) l.stored_equal (λ h. in_row s.stored.asked (STORED + EQUAL) CALLS k more s.stored.equal _ l.stored_asked l.stored_equal h (lit≤ tt)) refl
+
+  pub at_meant_asked : plus (MEANT + ASKED) CALLS k more (counts s) ≡ counts (record s { meant = record s.meant { asked = row_after s.meant.asked k more }; broken = broken_after s.meant.asked s.broken k more })
+  at_meant_asked =
+      placed (MEANT + ASKED) CALLS s.meant.asked (λ row broken. record s { meant = record s.meant { asked = row }; broken = broken }) l.meant_asked (λ h. simp append_assoc at (in_row (s.stored.asked ++ s.stored.equal) (MEANT + ASKED) CALLS k more s.meant.asked (s.meant.equal ++ (s.refused ++ (s.hypotheses ++ (s.taken ∷ s.changed ∷ s.ends ∷ s.broken ∷ [])))) (simp length-append (omega arith)) l.meant_asked h (lit≤ tt))) refl
+
+  pub at_meant_equal : plus (MEANT + EQUAL) CALLS k more (counts s) ≡ counts (record s { meant = record s.meant { equal = row_after s.meant.equal k more }; broken = broken_after s.meant.equal s.broken k more })
+  at_meant_equal =
+      placed (MEANT + EQUAL) CALLS s.meant.equal (λ row broken. record s { meant = record s.meant { equal = row }; broken = broken }) l.meant_equal (λ h. simp append_assoc at (in_row (s.stored.asked ++ (s.stored.equal ++ s.meant.asked)) (MEANT + EQUAL) CALLS k more s.meant.equal (s.refused ++ (s.hypotheses ++ (s.taken ∷ s.changed ∷ s.ends ∷ s.broken ∷ []))) (simp length-append (omega arith)) l.meant_equal h (lit≤ tt))) refl
+
+  pub at_refused : plus REFUSED NUMBERS k more (counts s) ≡ counts (record s { refused = row_after s.refused k more; broken = broken_after s.refused s.broken k more })
+  at_refused =
+      placed REFUSED NUMBERS s.refused (λ row broken. record s { refused = row; broken = broken }) l.refused (λ h. simp append_assoc at (in_row (s.stored.asked ++ (s.stored.equal ++ (s.meant.asked ++ s.meant.equal))) REFUSED NUMBERS k more s.refused (s.hypotheses ++ (s.taken ∷ s.changed ∷ s.ends ∷ s.broken ∷ [])) (simp length-append (omega arith)) l.refused h (lit≤ tt))) refl
+
+  pub at_hypotheses : plus HYPOTHESIS HYPOTHESES k more (counts s) ≡ counts (record s { hypotheses = row_after s.hypotheses k more; broken = broken_after s.hypotheses s.broken k more })
+  at_hypotheses =
+      placed HYPOTHESIS HYPOTHESES s.hypotheses (λ row broken. record s { hypotheses = row; broken = broken }) l.hypotheses (λ h. simp append_assoc at (in_row (s.stored.asked ++ (s.stored.equal ++ (s.meant.asked ++ (s.meant.equal ++ s.refused)))) HYPOTHESIS HYPOTHESES k more s.hypotheses (s.taken ∷ s.changed ∷ s.ends ∷ s.broken ∷ []) (simp length-append (omega arith)) l.hypotheses h (lit≤ tt))) refl
 
   pub at_taken : plus TAKEN 1 0 more (counts s) ≡ counts (record s { taken = sum_of s.taken more })
   at_taken =
@@ -66,40 +89,7 @@ module _ (s : Tally) (l : Long s) (k more : ℕ) where
   at_broken =
       simp append_assoc at (in_row (s.stored.asked ++ (s.stored.equal ++ (s.meant.asked ++ (s.meant.equal ++ (s.refused ++ (s.hypotheses ++ (s.taken ∷ s.changed ∷ s.ends ∷ []))))))) BROKEN 1 0 more (s.broken ∷ []) [] (simp length-append (omega arith)) refl (lit≤ tt) (lit≤ tt))
 
-  -- what has no place in a row is broken
-  spilt : (first places : ℕ) → places ≤ k → plus first places k more (counts s) ≡ counts (record s { broken = sum_of s.broken more })
-  spilt first places h =
-      simp append_assoc at (no_place (s.stored.asked ++ (s.stored.equal ++ (s.meant.asked ++ (s.meant.equal ++ (s.refused ++ (s.hypotheses ++ (s.taken ∷ s.changed ∷ s.ends ∷ []))))))) first places k more s.broken (simp length-append (omega arith)) h)
-
-  pub at_refused : plus REFUSED NUMBERS k more (counts s) ≡ counts (record s { refused = row_after s.refused k more; broken = broken_after s.refused s.broken k more })
-  at_refused = of (nat_lt k (length s.refused)) refl
-    where
-      of : (t : Bool) → nat_lt k (length s.refused) ≡ t → plus REFUSED NUMBERS k more (counts s) ≡ counts (record s { refused = cond t (added s.refused k more) s.refused; broken = cond t s.broken (sum_of s.broken more) })
-      of true e =
-          let within = ltb-true k (length s.refused) e in
-          simp append_assoc at (in_row (s.stored.asked ++ (s.stored.equal ++ (s.meant.asked ++ s.meant.equal))) REFUSED NUMBERS k more s.refused (s.hypotheses ++ (s.taken ∷ s.changed ∷ s.ends ∷ s.broken ∷ [])) (simp length-append (omega arith)) l.refused (omega arith) (lit≤ tt))
-      of false e = let past = ltb-false k (length s.refused) e in spilt REFUSED NUMBERS (omega arith)
-
-  pub at_hypotheses : plus HYPOTHESIS HYPOTHESES k more (counts s) ≡ counts (record s { hypotheses = row_after s.hypotheses k more; broken = broken_after s.hypotheses s.broken k more })
-  at_hypotheses = of (nat_lt k (length s.hypotheses)) refl
-    where
-      of : (t : Bool) → nat_lt k (length s.hypotheses) ≡ t → plus HYPOTHESIS HYPOTHESES k more (counts s) ≡ counts (record s { hypotheses = cond t (added s.hypotheses k more) s.hypotheses; broken = cond t s.broken (sum_of s.broken more) })
-      of true e =
-          let within = ltb-true k (length s.hypotheses) e in
-          simp append_assoc at (in_row (s.stored.asked ++ (s.stored.equal ++ (s.meant.asked ++ (s.meant.equal ++ s.refused)))) HYPOTHESIS HYPOTHESES k more s.hypotheses (s.taken ∷ s.changed ∷ s.ends ∷ s.broken ∷ []) (simp length-append (omega arith)) l.hypotheses (omega arith) (lit≤ tt))
-      of false e = let past = ltb-false k (length s.hypotheses) e in spilt HYPOTHESIS HYPOTHESES (omega arith)
-
 -- ---- a case of a call in its group
-call_below : (call : Call) → call_number call < CALLS
-call_below FindElements = lit< tt
-call_below FitElements = lit< tt
-call_below EstimateStrong = lit< tt
-call_below ResidualCheck = lit< tt
-call_below SecondCarrierEvidence = lit< tt
-call_below Classify = lit< tt
-call_below Subtract = lit< tt
-call_below Run = lit< tt
-
 length-row_after : (row : List ℕ) (k more : ℕ) → length (row_after row k more) ≡ length row
 length-row_after row k more = of (nat_lt k (length row))
   where
@@ -107,37 +97,31 @@ length-row_after row k more = of (nat_lt k (length row))
     of true = length-set row k _
     of false = refl
 
-module _ (s : Tally) (l : Long s) (call : Call) (equal : Bool) where
-  abbrev in_stored : Tally
-  in_stored = record s { stored = group_after s.stored (call_number call) equal }
+module _ (s : Tally) (l : Long s) (call : ℕ) (equal : Bool) where
+  long_stored : Long (in_stored s call equal)
+  long_stored = record { stored_asked = length-row_after s.stored.asked _ _ ∙ l.stored_asked; stored_equal = length-row_after s.stored.equal _ _ ∙ l.stored_equal; meant_asked = l.meant_asked; meant_equal = l.meant_equal; refused = l.refused; hypotheses = l.hypotheses }
 
-  abbrev in_meant : Tally
-  in_meant = record s { meant = group_after s.meant (call_number call) equal }
+  long_meant : Long (in_meant s call equal)
+  long_meant = record { stored_asked = l.stored_asked; stored_equal = l.stored_equal; meant_asked = length-row_after s.meant.asked _ _ ∙ l.meant_asked; meant_equal = length-row_after s.meant.equal _ _ ∙ l.meant_equal; refused = l.refused; hypotheses = l.hypotheses }
 
-  long_stored : Long in_stored
-  long_stored = record { stored_asked = length-set s.stored.asked _ _ ∙ l.stored_asked; stored_equal = length-set s.stored.equal _ _ ∙ l.stored_equal; meant_asked = l.meant_asked; meant_equal = l.meant_equal; refused = l.refused; hypotheses = l.hypotheses }
-
-  long_meant : Long in_meant
-  long_meant = record { stored_asked = l.stored_asked; stored_equal = l.stored_equal; meant_asked = length-set s.meant.asked _ _ ∙ l.meant_asked; meant_equal = length-set s.meant.equal _ _ ∙ l.meant_equal; refused = l.refused; hypotheses = l.hypotheses }
-
-  asked_stored : asked_in STORED (call_number call) equal (counts s) ≡ counts in_stored
+  asked_stored : asked_in STORED call equal (counts s) ≡ counts (in_stored s call equal)
   unfolding asked_in
   asked_stored =
-      let first : Tally = record s { stored = record s.stored { asked = added s.stored.asked (call_number call) 1 } } in
-      let long : Long first = record { stored_asked = length-set s.stored.asked _ _ ∙ l.stored_asked; stored_equal = l.stored_equal; meant_asked = l.meant_asked; meant_equal = l.meant_equal; refused = l.refused; hypotheses = l.hypotheses } in
-      rw (at_stored_asked s l (call_number call) 1 (call_below call)) (at_stored_equal first long (call_number call) (cond equal 1 0) (call_below call))
+      let first : Tally = record s { stored = record s.stored { asked = row_after s.stored.asked call 1 }; broken = broken_after s.stored.asked s.broken call 1 } in
+      let long : Long first = record { stored_asked = length-row_after s.stored.asked _ _ ∙ l.stored_asked; stored_equal = l.stored_equal; meant_asked = l.meant_asked; meant_equal = l.meant_equal; refused = l.refused; hypotheses = l.hypotheses } in
+      rw (at_stored_asked s l call 1) (at_stored_equal first long call (cond equal 1 0))
 
-  asked_meant : asked_in MEANT (call_number call) equal (counts s) ≡ counts in_meant
+  asked_meant : asked_in MEANT call equal (counts s) ≡ counts (in_meant s call equal)
   unfolding asked_in
   asked_meant =
-      let first : Tally = record s { meant = record s.meant { asked = added s.meant.asked (call_number call) 1 } } in
-      let long : Long first = record { stored_asked = l.stored_asked; stored_equal = l.stored_equal; meant_asked = length-set s.meant.asked _ _ ∙ l.meant_asked; meant_equal = l.meant_equal; refused = l.refused; hypotheses = l.hypotheses } in
-      rw (at_meant_asked s l (call_number call) 1 (call_below call)) (at_meant_equal first long (call_number call) (cond equal 1 0) (call_below call))
+      let first : Tally = record s { meant = record s.meant { asked = row_after s.meant.asked call 1 }; broken = broken_after s.meant.asked s.broken call 1 } in
+      let long : Long first = record { stored_asked = l.stored_asked; stored_equal = l.stored_equal; meant_asked = length-row_after s.meant.asked _ _ ∙ l.meant_asked; meant_equal = l.meant_equal; refused = l.refused; hypotheses = l.hypotheses } in
+      rw (at_meant_asked s l call 1) (at_meant_equal first long call (cond equal 1 0))
 
-  pub counted : (meant : Bool) (number : ℕ) (t : Tally) → t ≡ in_group s meant (call_number call) equal → counts (record t { refused = row_after t.refused number (from_bool (not meant)); broken = broken_after t.refused t.broken number (from_bool (not meant)) }) ≡ counted_of (call_number call) meant equal number (counts s)
+  pub counted : (meant : Bool) (number : ℕ) (t : Tally) → t ≡ in_group s meant call equal → counts (record t { refused = row_after t.refused number (from_bool (not meant)); broken = broken_after t.refused t.broken number (from_bool (not meant)) }) ≡ counted_of call meant equal number (counts s)
   unfolding counted_of
-  counted true number t e = rw (e, asked_meant) (sym (at_refused in_meant long_meant number 0))
-  counted false number t e = rw (e, asked_stored) (sym (at_refused in_stored long_stored number 1))
+  counted true number t e = rw (e, asked_meant) (sym (at_refused (in_meant s call equal) long_meant number 0))
+  counted false number t e = rw (e, asked_stored) (sym (at_refused (in_stored s call equal) long_stored number 1))
 
 -- ---- an accepted run
 module _ (s : Tally) (l : Long s) (hypothesis : ℕ) where

@@ -1,7 +1,9 @@
--- A list's items by their places: whether each passes a test, how many do, and the rows that are compared by such tests.
-use Rattle.std.proofs.Common.{◌≡◌, ℕ, zero, suc, ◌+◌, ◌-◌, ◌*◌, ◌/◌, ◌<◌, ◌≤◌, min, Bool, cond, not, List, [], length, get_or, take, drop, filter, zip, Float, refl, ◌∙◌, arith, add-one, length-take, length-drop, take-suc, get_or-drop, le-leb, eq-eqb, lt-ltb, lit<, add-zero}
+-- A list's items by their places: whether each passes a test, how many do, and the rows that are compared by such
+-- tests.
+use Rattle.std.proofs.Common.{◌≡◌, ℕ, zero, suc, ◌+◌, ◌-◌, ◌*◌, ◌/◌, ◌<◌, ◌≤◌, min, Bool, cond, not, ◌&&◌, List, [], ◌∷◌, length, get_or, take, drop, filter, map, zip, Float, refl, ap, ◌∙◌, arith, add-one, length-take, length-drop, take-suc, get_or-drop, le-leb, eq-eqb, lt-ltb, lit<, add-zero}
 use Rattle.std.specs.List.{list_all, count_by}
-use Rattle.std.proofs.lemmas.List.{take_all}
+use mathlib.Core.List.{map-id}
+use Rattle.std.proofs.lemmas.List.{take_all, length-map}
 use Rattle.std.proofs.lemmas.List.Recursion.{and_push}
 use Rattle.std.proofs.lemmas.List.Sums.{sum_by_more, length-filter}
 use Rattle.std.proofs.lemmas.Slice.Zip.{length-zip, get_or-zip}
@@ -47,13 +49,29 @@ module _ (a b : List Float) where
   pair_at : (k : ℕ) → k < length a → k < length b → same_pair (get_or (zip a b) k (nan, nan)) ≡ same_number (row a k) (row b k)
   pair_at k h g = rw (get_or-zip a b k (nan, nan) h g)
 
-  pub firsts_by_pairs : (n : ℕ) → n ≤ length a → n ≤ length b → list_all same_pair (take n (zip a b)) ≡ same_firsts a b n
+  firsts_by_pairs : (n : ℕ) → n ≤ length a → n ≤ length b → list_all same_pair (take n (zip a b)) ≡ same_firsts a b n
   unfolding same_firsts same_to
   firsts_by_pairs n p q =
       rw (le-leb n (length a) p, le-leb n (length b) q) (all_of_first same_pair (λ k. same_number (row a k) (row b k)) (nan, nan) (zip a b) n (omega (arith, length-zip a b)) (λ k h. pair_at k (omega arith) (omega arith)))
 
-  pub rows_by_pairs : length a ≤ length b → list_all same_pair (zip a b) ≡ same_firsts a b (length a)
-  rows_by_pairs p = rw (take_all (length a) (zip a b) (omega (arith, length-zip a b))) at (firsts_by_pairs (length a) (omega arith) p)
+-- ---- rows of whatever has a value
+module _ {A : Type 0} (value : A → Float) where
+  abbrev pub same_values : A × A → Bool
+  same_values z = same_number (value z.0) (value z.1)
+
+  of_values : (a b : List A) (n : ℕ) → list_all same_values (take n (zip a b)) ≡ list_all same_pair (take n (zip (map value a) (map value b)))
+  of_values a b zero = refl
+  of_values [] b (suc n) = refl
+  of_values (x ∷ a) [] (suc n) = refl
+  of_values (x ∷ a) (y ∷ b) (suc n) = ap (λ t. same_number (value x) (value y) && t) (of_values a b n)
+
+  pub firsts_by_values : (a b : List A) (n : ℕ) → n ≤ length a → n ≤ length b → list_all same_values (take n (zip a b)) ≡ same_firsts (map value a) (map value b) n
+  firsts_by_values a b n p q =
+      of_values a b n ∙ firsts_by_pairs (map value a) (map value b) n (rw (length-map a value) p) (rw (length-map b value) q)
+
+-- numbers, each of which is its own value
+pub own_values : (a b : List Float) (n : ℕ) → same_firsts (map (λ x. x) a) (map (λ x. x) b) n ≡ same_firsts a b n
+own_values a b n = rw (map-id a, map-id b) refl
 
 -- ---- what is left of a row from one place on
 pub lent_by_items : (l : List Float) (from : ℕ) → list_all (λ x. eq x LENT) (drop from l) ≡ lent_from l from

@@ -1,5 +1,5 @@
--- What a record is, by the number that it begins with, and a call by its place among the calls (crates/replay/README.md).
--- Definitions only.
+-- What a record is, by the number that it begins with, and a call by its place among the calls
+-- (crates/replay/README.md). Definitions only.
 use Rattle.std.specs.Prelude.{ℕ, ◌+◌, ◌≡◌, ◌≢◌, Result, MatchResult}
 use Rattle.stored.specs.declared.kind.Call.{Call}
 use Rattle.stored.specs.declared.kind.Call.TheVariants.{FindElements, FitElements, EstimateStrong, ResidualCheck, SecondCarrierEvidence, Classify, Subtract, Run}

@@ -1,5 +1,5 @@
--- The records of a file (crates/replay/README.md): each is its kind's number, its length in units with these two, and its
--- body. Definitions only.
+-- The records of a file (crates/replay/README.md): each is its kind's number, its length in units with these two, and
+-- its body. Definitions only.
 use Rattle.std.specs.Prelude.{ℕ, ◌*◌, ◌/◌, ◌≡◌, ◌≢◌, ◌<◌, ◌≤◌, ◌⊎◌, List, [], length, drop, take, Option, Result, MatchOption, MatchResult}
 use Rattle.stored.specs.Units.{unit_in}
 use Rattle.stored.specs.Kinds.{kind_number}

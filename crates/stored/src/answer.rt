@@ -6,7 +6,8 @@ ghost use Rattle.stored.specs.Answers.{refused_same, figured_same, filled_same, 
 use crate::equal::{as_lent, same_figures, same_floats, same_list};
 
 // What came of a case: whether it is equal, and the number that refused it, none where it is accepted. Refusals and
-// hypotheses stand here by their numbers, since their enums are those of crates above.
+// hypotheses stand here by number, in which the file has them: the comparisons and the tally promise what they do of
+// any number, and a parameter that is a `Refusal` or a `Hypothesis` would promise it of those alone.
 #[derive(Clone, Copy)]
 pub struct Answered {
     pub equal: bool,

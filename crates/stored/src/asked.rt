@@ -1,8 +1,16 @@
 // What a stored case asks of a call, and what it then has to find.
-ghost use Rattle.std.specs.Prelude.{◌≡◌};
+ghost use Rattle.std.specs.Prelude.{◌≡◌, ◌<◌};
 ghost use Rattle.std.specs.Option.{unwrap_or};
 
 use crate::units::{count, double, long};
+
+// A list of a given estimate, which is one that is kept: how many of its numbers are handed over, and how many records
+// they are said to be. Some cases say more records than there is room for, to be refused.
+#[derive(Clone, Copy)]
+pub struct GivenList {
+    pub length: usize,
+    pub count: usize,
+}
 
 #[derive(Clone, Copy)]
 pub struct Asked {
@@ -14,15 +22,13 @@ pub struct Asked {
     pub elements: usize,
     pub fits: usize,
     pub work: usize,
-    // A given estimate, whose lists are those that are kept, to these lengths.
+    // A given estimate.
     pub carrier_hz: f64,
     pub carrier_step_hz: f64,
-    pub given_elements: usize,
-    pub element_count: usize,
-    pub given_fits: usize,
-    pub fit_count: usize,
-    // The Rust's answer: the number of its refusal, none where it accepts; whether the buffer is changed; how many numbers
-    // each list has.
+    pub given_elements: GivenList,
+    pub given_fits: GivenList,
+    // The Rust's answer: the number of its refusal, none where it accepts; whether the buffer is changed; how many
+    // numbers each list has.
     pub refused: Option<u64>,
     pub changed: bool,
     pub listed: usize,
@@ -39,6 +45,16 @@ fn refusal(number: u64) -> Option<u64>
     }
 }
 
+// From unit i on, of the 22 before a case's figures.
+fn given_list(body: &[u8], i: usize) -> GivenList
+    requires { i < 22 }
+{
+    GivenList {
+        length: count(body, i),
+        count: long(body, i + 1) as usize,
+    }
+}
+
 pub fn of_case(body: &[u8]) -> Asked {
     Asked {
         fs: double(body, 0),
@@ -49,10 +65,8 @@ pub fn of_case(body: &[u8]) -> Asked {
         work: count(body, 7),
         carrier_hz: double(body, 8),
         carrier_step_hz: double(body, 10),
-        given_elements: count(body, 12),
-        element_count: long(body, 13) as usize,
-        given_fits: count(body, 15),
-        fit_count: long(body, 16) as usize,
+        given_elements: given_list(body, 12),
+        given_fits: given_list(body, 15),
         refused: refusal(count(body, 18) as u64),
         changed: count(body, 19) != 0,
         listed: count(body, 20),

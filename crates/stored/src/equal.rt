@@ -1,5 +1,5 @@
 // Comparisons: bit for bit, where all NaNs are one and both zeros are one.
-ghost use Rattle.std.specs.Prelude.{◌≡◌, length};
+ghost use Rattle.std.specs.Prelude.{◌≡◌, Float, length, map};
 ghost use Rattle.stored.specs.Same.{same_number, same_firsts, same_figures, changed_in, lent_from};
 
 use crate::units::double;
@@ -22,23 +22,32 @@ fn same(a: f64, b: f64) -> bool
     (a.is_nan() && b.is_nan()) || a == b
 }
 
-// Are the first n numbers of both rows the same?
+// Are the first n of both rows the same, each as the f64 that it is converted to?
 #[tactic(auto, unfolding(crate::specs::Same::same_firsts))]
+fn same_firsts<T: Copy + Into<f64>>(a: &[T], b: &[T], n: usize) -> bool
+    ensures { (value : T → Float) → ((x : T) (y : Float) → T.converts x y → y ≡ value x)
+        → result ≡ same_firsts (map value a.now) (map value b.now) n }
+{
+    n <= a.len()
+        && n <= b.len()
+        && a.iter()
+            .zip(b)
+            .take(n)
+            .all(|(x, y)| same((*x).into(), (*y).into()))
+}
+
+// Are the first n numbers of both rows the same?
 pub fn same_list(a: &[f64], b: &[f64], n: usize) -> bool
     ensures { result ≡ same_firsts a.now b.now n }
 {
-    n <= a.len() && n <= b.len() && a.iter().zip(b).take(n).all(|(x, y)| same(*x, *y))
+    same_firsts(a, b, n)
 }
 
 // Are the floats of a row those that another begins with?
-#[tactic(auto, unfolding(crate::specs::Same::same_firsts))]
 pub fn same_floats(a: &[f32], b: &[f32]) -> bool
     ensures { result ≡ same_firsts a.now b.now (length a.now) }
 {
-    a.len() <= b.len()
-        && a.iter()
-            .zip(b)
-            .all(|(x, y)| same(f64::from(*x), f64::from(*y)))
+    same_firsts(a, b, a.len())
 }
 
 // Are figures those that are stored?

@@ -2,7 +2,7 @@
 ghost use Rattle.std.specs.Prelude.{◌≡◌, replicate, is_some, MatchResult, if◌then◌else◌};
 ghost use Rattle.std.specs.Option.{unwrap_or};
 ghost use Rattle.stored.specs.Tally.{PLACES, ENDS, BROKEN, plus, counted_of, ran_of, counts};
-ghost use Rattle.stored.specs.Inner.{group_after, in_group, row_after, broken_after};
+ghost use Rattle.stored.specs.Inner.{group_after, broken_in, in_group, row_after, broken_after};
 ghost use Rattle.stored.specs.Kinds.{call_number};
 
 use crate::answer::{Answered, Ran};
@@ -15,7 +15,8 @@ const NUMBERS: usize = 20;
 
 const HYPOTHESES: usize = 4;
 
-// A group of cases, call by call: how many were asked, and how many of them are equal.
+// A group of cases, call by call: how many were asked, and how many of them are equal. Two rows, and not one of pairs:
+// so `counts` has them one behind the other.
 #[derive(Clone, Copy)]
 pub struct Group {
     pub asked: [u64; CALLS],
@@ -28,13 +29,14 @@ impl Group {
         equal: [0; CALLS],
     };
 
-    // Counts a case of a call: that it was asked, and whether it is equal.
-    fn count(&mut self, call: Call, equal: bool)
-        ensures { self.new ≡ group_after self.old (call_number call) equal }
+    // Counts a case of a call, by the call's number: that it was asked, and whether it is equal. Where the group has no
+    // place for the call, both are counted as broken.
+    fn count(&mut self, broken: &mut u64, call: usize, equal: bool)
+        ensures group_is { self.new ≡ group_after self.old call equal }
+        ensures broken_is { broken.new ≡ broken_in self.old broken.old call equal }
     {
-        let k = call.number();
-        self.asked[k] = self.asked[k].saturating_add(1);
-        self.equal[k] = self.equal[k].saturating_add(u64::from(equal));
+        add(&mut self.asked, broken, call, 1);
+        add(&mut self.equal, broken, call, u64::from(equal));
     }
 }
 
@@ -85,19 +87,27 @@ impl Tally {
     }
 
     // Counts a case of a call in its group.
-    fn count_in_group(&mut self, call: Call, meant: bool, equal: bool)
-        ensures { self.new ≡ in_group self.old meant (call_number call) equal }
+    fn count_in_group(&mut self, call: usize, meant: bool, equal: bool)
+        ensures { self.new ≡ in_group self.old meant call equal }
     {
         if meant {
-            self.meant.count(call, equal);
+            self.meant.count(&mut self.broken, call, equal);
         } else {
-            self.stored.count(call, equal);
+            self.stored.count(&mut self.broken, call, equal);
         }
     }
 
     // Counts a case of a call, and its number unless it is meant to differ.
     pub fn count(&mut self, call: Call, meant: bool, a: Answered)
         ensures { counts self.new ≡ counted_of (call_number call) meant a.equal (unwrap_or a.refused 0) (counts self.old) }
+    {
+        self.count_numbered(call.number(), meant, a);
+    }
+
+    // The same of a call by its number, whether any call has it or not; one that has no place is counted as broken.
+    // What is promised of any number stands here, and by number in what it calls; of a `Call` alone it would be less.
+    pub fn count_numbered(&mut self, call: usize, meant: bool, a: Answered)
+        ensures { counts self.new ≡ counted_of call meant a.equal (unwrap_or a.refused 0) (counts self.old) }
     {
         self.count_in_group(call, meant, a.equal);
         let number = a.refused.unwrap_or(0) as usize;

@@ -3,8 +3,8 @@ use crate::kind::{Broken, Call};
 use crate::tally::{Group, Tally};
 use std::fmt;
 
-// A group of cases, call by call where any was asked, and in all: how many of how many are equal. Both groups are told by
-// this: the two numbers of a line are the same in the first and differ in the second, so that one told for the other
+// A group of cases, call by call where any was asked, and in all: how many of how many are equal. Both groups are told
+// by this: the two numbers of a line are the same in the first and differ in the second, so that one told for the other
 // shows.
 impl fmt::Display for Group {
     fn fmt<W: fmt::Write>(&self, f: &mut fmt::Formatter<W>) -> fmt::Result {

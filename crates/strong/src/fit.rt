@@ -32,7 +32,8 @@ fn accept_fit(
     ask(elements_ok(elements, count), Refusal::Given)
 }
 
-// Rust: fit_elements. It asks first; the elements are given and the fits are lent as flat lists.
+// Rust: fit_elements. It asks first; the elements are given and the fits are lent as flat lists. The elements come with
+// any count, and not as `Elements`, whose type says that the list has the places: question 7 asks about that.
 pub fn fit_elements(
     iq: &[f32],
     fs: f64,

@@ -1,12 +1,13 @@
 -- y to the nearest whole number, a half away from zero, by the size of y: what `marked` adds to the mark where y may
 -- lie half-way between two. Assumes nothing.
-use Rattle.std.proofs.Common.{◌≡◌, ℕ, zero, suc, ◌+◌, ◌*◌, ◌^◌, ◌<◌, ◌≤◌, Bool, true, false, cond, not, T, ℤ, pos, sym, refl, ap, ◌∙◌, zero-le, arith, nltb→le, T_not}
+use Rattle.std.proofs.Common.{◌≡◌, ℕ, ◌+◌, ◌*◌, ◌^◌, ◌<◌, ◌≤◌, Bool, true, false, cond, not, T, ℤ, pos, sym, refl, ap, ◌∙◌, zero-le, arith, nltb→le, T_not}
 use native.Mathlib.Nat.{div-eq_of_lt}
 use lib.Ieee.{Float, nan, inf, fin, binary64, up, down, round, neg, lt, le, of_int, fits}
 use lib.Ieee.Fits.{down_pos}
 use Rattle.float.specs.Ops.{of, ◌⊕◌}
 use Rattle.float.specs.Compare.{abs_of}
 use Rattle.float.specs.Whole.{half_up, round_of, whole_by}
+use Rattle.float.proofs.Divided.{plus_fits}
 use Rattle.float.proofs.Exactly.{neg_round}
 use Rattle.float.proofs.Compared.{nought, yes}
 use Rattle.float.proofs.Sums.{not_under}
@@ -18,11 +19,6 @@ chosen : (b : Bool) (x y z : Float) → (T b → x ≡ z) → (T (not b) → y �
 chosen true x y z f g = f tt
 chosen false x y z f g = g tt
 
-size_fits : (s : Bool) (m : ℕ) (e : ℤ) → T (fits binary64 (fin s m e)) → T (fits binary64 (fin false m e))
-unfolding fits
-size_fits s zero e t = t
-size_fits s (suc m) e t = t
-
 -- ---- the size
 pub nearest_is : (y : Float) → T (fits binary64 y) → le (abs_of y) (of 8191) ≡ true → cond (le half (gap (abs_of y))) (bounced (abs_of y) ⊕ fin false 1 (pos 0)) (bounced (abs_of y)) ≡ round_of (abs_of y)
 unfolding abs_of le of_int round_of
@@ -30,7 +26,7 @@ nearest_is nan t h = absurd (yes h)
 nearest_is (inf s) t h = absurd (yes h)
 nearest_is (fin s m e) t h =
     let below : m * up e < 2 ^ 52 * down e = omega (arith, top_bound m e (yes h), down_pos e) in
-    let w = small_fin m e (size_fits s m e t) below in
+    let w = small_fin m e (plus_fits s m e t) below in
     chosen (le half (gap (fin false m e))) _ _ _ w.near_more w.near_same
 
 -- ---- with the sign of y; the sum with the mark is one for either zero

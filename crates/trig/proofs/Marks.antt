@@ -33,14 +33,8 @@ over x s n c v = revalue x s n 1 (n * c) c (lit< tt) (sym (mul-one (n * c))) v
 
 -- ---- a sum of two signs
 sized : (s : Bool) (a b c : ℕ) (t : Bool) → (T t → a < b) → (T (not t) → b ≤ a) → (u : Bool) × (cond t (round binary64 (not s) (b - a) c) (round binary64 (s && ltb b a) (a - b) c) ≡ round binary64 u (a - b + (b - a)) c)
-sized s a b c true h k = (not s, ap (λ (z : ℕ). round binary64 (not s) z c) (big a b (h tt)))
-  where
-    big : (a b : ℕ) → a < b → b - a ≡ a - b + (b - a)
-    big a b h = omega arith
-sized s a b c false h k = (s && ltb b a, ap (λ (z : ℕ). round binary64 (s && ltb b a) z c) (small a b (k tt)))
-  where
-    small : (a b : ℕ) → b ≤ a → a - b ≡ a - b + (b - a)
-    small a b h = omega arith
+sized s a b c true h k = (not s, ap (λ (z : ℕ). round binary64 (not s) z c) (omega (arith, h tt)))
+sized s a b c false h k = (s && ltb b a, ap (λ (z : ℕ). round binary64 (s && ltb b a) z c) (omega (arith, k tt)))
 
 -- the size alone
 apart : (s : Bool) (a b c : ℕ) → (u : Bool) × (sum binary64 s a (not s) b c ≡ round binary64 u (a - b + (b - a)) c)
@@ -87,16 +81,10 @@ less w B v =
         small B h = omega arith
 
 gap_over : (B c : ℕ) → 0x18_0000_0000_0000 < B → gap B * c + 0x18_0000_0000_0000 * c ≡ B * c
-gap_over B c h = sym (add-mul (gap B) 0x18_0000_0000_0000 c) ∙ ap (λ (z : ℕ). z * c) (go B h)
-  where
-    go : (B : ℕ) → 0x18_0000_0000_0000 < B → gap B + 0x18_0000_0000_0000 ≡ B
-    go B h = omega arith
+gap_over B c h = sym (add-mul (gap B) 0x18_0000_0000_0000 c) ∙ ap (λ (z : ℕ). z * c) (omega (arith, h))
 
 gap_under : (B c : ℕ) → B ≤ 0x18_0000_0000_0000 → gap B * c + B * c ≡ 0x18_0000_0000_0000 * c
-gap_under B c h = sym (add-mul (gap B) B c) ∙ ap (λ (z : ℕ). z * c) (go B h)
-  where
-    go : (B : ℕ) → B ≤ 0x18_0000_0000_0000 → gap B + B ≡ 0x18_0000_0000_0000
-    go B h = omega arith
+gap_under B c h = sym (add-mul (gap B) B c) ∙ ap (λ (z : ℕ). z * c) (omega (arith, h))
 
 -- ---- y + (mark - w): how far the whole number that w stands for is from y
 abbrev apart_of : Bool → ℕ → ℕ → ℕ → ℕ
@@ -123,16 +111,13 @@ sizes false true a c B l h k =
     let z : a - gap B * c + (gap B * c - a) ≡ apart_of false a c B = omega arith in
     (w.0, w.1 ∙ ap (λ (z : ℕ). round binary64 w.0 z c) z)
 
-gap_small : (B : ℕ) → B ≤ 2 ^ 53 → gap B ≤ 2 ^ 53
-gap_small B h = omega arith
-
 away : (y w : Float) (s : Bool) (a c B : ℕ) → 0 < c → a ≤ 8192 * c → HasValue y s a c → B ≤ 2 ^ 53 → HasValue w false B 1 → (u : Bool) × (y ⊕ (mark ⊖ w) ≡ round binary64 u (apart_of s a c B) c)
 away y w s a c B C l v b q =
     let t = ltb 0x18_0000_0000_0000 B in
     let r = sizes s t a c B l (ltb→lt 0x18_0000_0000_0000 B) (nltb→le 0x18_0000_0000_0000 B) in (
       r.0,
       ap (λ (z : Float). y ⊕ z) (less w B q)
-          ∙ add_over binary64 y (round binary64 t (gap B) 1) s t a (gap B * c) c C v (over (round binary64 t (gap B) 1) t (gap B) c (round_whole binary64 t (gap B) (gap_small B b)))
+          ∙ add_over binary64 y (round binary64 t (gap B) 1) s t a (gap B * c) c C v (over (round binary64 t (gap B) 1) t (gap B) c (round_whole binary64 t (gap B) (omega (arith, b))))
           ∙ r.1,
     )
 
@@ -235,26 +220,20 @@ marks y s a c C l v d e h =
     let is : y ⊕ mark ≡ round binary64 false z c = plus y s a c C k v in
     let r = ranged s a c C k in
     let w : HasValue (y ⊕ mark) false B 1 = subst (λ (x : Float). HasValue x false B 1) (sym is) (round_at_one z c C r.0 r.1) in
-    let few : B ≤ 2 ^ 53 = room (z / c) B (closest_bounds z c).1 ((div-lt_iff_lt-mul C).1 r.1) in
+    let few : B ≤ 2 ^ 53 = omega (arith, (closest_bounds z c).1, (div-lt_iff_lt-mul C).1 r.1) in
     let u = away y (y ⊕ mark) s a c B C k v few w in
     let same : B ≡ sum_of s n 1 = nearest_is s a c B C l (square d u.0 (apart_of s a c B) c C (e ∙ u.1) h) in
     sym (round_value binary64 (y ⊕ mark) false B 1 (lit< tt) (add-fits binary64 y mark) w)
     ∙ ap (λ (x : ℕ). round binary64 false x 1) same
     ∙ sym (whole_plus s n (half_small a c C l)).0
-  where
-    room : (q B : ℕ) → B ≤ suc q → q < 2 ^ 53 → B ≤ 2 ^ 53
-    room q B h k = omega arith
 
 -- ---- the bit pattern of a whole number from 2^52 up to 2^53: the number, with 1074 in the exponent's field above it
 pub pattern : (w : Float) (B : ℕ) → HasValue w false B 1 → 2 ^ 52 ≤ B → B < 2 ^ 53 → to_bits binary64 w ≡ 0x4320_0000_0000_0000 + B
 pattern w B v l h =
-    let k : size (B * 2 ^ 1074) - 53 ≡ 1074 = both (size (B * 2 ^ 1074)) (size_gt (B * 2 ^ 1074) 1126 (mul-le-mul_right (2 ^ 1074) l)) (size-le (B * 2 ^ 1074) 1127 (mul-lt-mul_of_pos_right h (pow_pos 1074))) in
+    let k : size (B * 2 ^ 1074) - 53 ≡ 1074 = omega (arith, size_gt (B * 2 ^ 1074) 1126 (mul-le-mul_right (2 ^ 1074) l), size-le (B * 2 ^ 1074) 1127 (mul-lt-mul_of_pos_right h (pow_pos 1074))) in
     pattern_is w (B * 2 ^ 1074) (revalue w false B 1 (B * 2 ^ 1074) (2 ^ 1074) (lit< tt) (sym (mul-one (B * 2 ^ 1074))) v)
     ∙ ap (λ (z : ℕ). z * 2 ^ 52 + B * 2 ^ 1074 / 2 ^ z) k
     ∙ ap (λ (z : ℕ). 0x4320_0000_0000_0000 + z) (mul-div_cancel B (pow_pos 1074))
-  where
-    both : (z : ℕ) → 1126 < z → z ≤ 1127 → z - 53 ≡ 1074
-    both z a b = omega arith
 
 -- its last 12 digits: the number within one turn
 signed_zero : to_signed 63 (round binary64 true 0 1) ≡ pos 0

@@ -4,6 +4,7 @@ use Rattle.std.proofs.Common.{◌≡◌, ℕ, suc, ◌+◌, ◌-◌, ◌*◌, �
 use lib.Dec.{nleb→lt}
 use lib.Ieee.{Float, nan, inf, fin, up, down, neg, lt, le, eq}
 use lib.Ieee.Fits.{down_pos, eq→eqb}
+use Rattle.std.proofs.Math.Bool.{and-true}
 use Rattle.float.specs.Compare.{abs_of}
 use Rattle.float.proofs.Compared.{same_truth}
 use Rattle.trig.specs.Circle.{entry_of, sine_at, within}
@@ -36,10 +37,7 @@ quarters p h = go (leb p 1024) (leb p 2048) (leb p 3072) (leb→le p 1024) (nleb
     go : (a b c : Bool) → (T a → p ≤ 1024) → (T (not a) → 1024 < p) → (T b → p ≤ 2048) → (T (not b) → 2048 < p) → (T c → p ≤ 3072) → (T (not c) → 3072 < p) →
         cond b (entry_of (folded p)) (neg (entry_of (folded p))) ≡ cond a (entry_of p) (cond b (entry_of (2048 - p)) (cond c (neg (entry_of (p - 2048))) (neg (entry_of (4096 - p)))))
     go true true c i j k l m n = ap entry_of (first p (i tt))
-    go true false c i j k l m n = absurd (none p (i tt) (l tt))
-      where
-        none : (p : ℕ) → p ≤ 1024 → 2048 < p → ⊥
-        none p h k = omega arith
+    go true false c i j k l m n = absurd (omega (arith, i tt, l tt))
     go false true c i j k l m n = ap entry_of (second p (j tt) (k tt))
     go false false true i j k l m n = ap (λ (z : ℕ). neg (entry_of z)) (third p (l tt) (m tt))
     go false false false i j k l m n = ap (λ (z : ℕ). neg (entry_of z)) (fourth p (n tt) h)
@@ -64,14 +62,8 @@ further (pos n) = omega arith
 further (negsuc n) = go (ltb 1024 (suc n)) (ltb→lt 1024 (suc n)) (nltb→le 1024 (suc n))
   where
     go : (b : Bool) → (T b → 1024 < suc n) → (T (not b) → suc n ≤ 1024) → within (cond b (negsuc (suc n - suc 1024)) (pos (1024 - suc n))) ≡ (4095 - n % 4096 + 1024) % 4096
-    go true h k = past n (h tt)
-      where
-        past : (n : ℕ) → 1024 < suc n → 4095 - (suc n - 1025) % 4096 ≡ (4095 - n % 4096 + 1024) % 4096
-        past n h = omega arith
-    go false h k = short n (k tt)
-      where
-        short : (n : ℕ) → suc n ≤ 1024 → (1024 - suc n) % 4096 ≡ (4095 - n % 4096 + 1024) % 4096
-        short n h = omega arith
+    go true h k = omega (arith, h tt)
+    go false h k = omega (arith, k tt)
 
 -- ---- |x| ≤ 7 by two tests
 flip : (a b : ℕ) → eqb a b ≡ eqb b a
@@ -94,8 +86,4 @@ two_tests nan = refl
 two_tests (inf true) = refl
 two_tests (inf false) = refl
 two_tests (fin true m e) = rw ((passes m e).1, mirror m e) refl
-two_tests (fin false m e) = rw (passes m e).0 (and-true (le (fin false m e) (fin false 7 (pos 0))))
-  where
-    and-true : (b : Bool) → b ≡ b && true
-    and-true true = refl
-    and-true false = refl
+two_tests (fin false m e) = rw (passes m e).0 (sym (and-true (le (fin false m e) (fin false 7 (pos 0)))))

@@ -11,6 +11,7 @@ use lib.Ieee.Order.{round_mono}
 use Rattle.float.specs.Ops.{of, ◌⊗◌, ◌⊘◌}
 use Rattle.float.specs.Compare.{abs_of}
 use Rattle.float.specs.Whole.{half_up, round_of, whole_by}
+use Rattle.float.proofs.Intervals.{no_top}
 use Rattle.float.proofs.Compared.{le→value}
 use Rattle.trig.proofs.Marks.{in_float_lem}
 use Rattle.trig.specs.Argument.{ratio_of, nearest_step}
@@ -21,12 +22,6 @@ use Rattle.trig.proofs.Fractions.{shape}
 -- a NaN, or a number from 0 to w
 abbrev pub UpTo : ℕ → Float → Type 0
 UpTo w t = (t ≡ nan) ⊎ ((m : ℕ) × (e : ℤ) × (t ≡ fin false m e) × (m * up e ≤ w * down e))
-
-beyond : (x : Float) (w : ℕ) → HasValue x false w 1 → T (le (inf false) x) → ⊥
-unfolding le
-beyond nan w v t = v
-beyond (inf s) w v t = v
-beyond (fin s m e) w v t = t
 
 -- a fraction up to w, rounded
 rounded : (w a c : ℕ) → 0 < c → w ≤ 2 ^ 53 → a ≤ w * c → UpTo w (round binary64 false a c)
@@ -41,7 +36,7 @@ rounded w a c C l h =
         le_trans (le_of_eq (sym (mul-one (s.0 * up s.1))))
             (le→value (fin false s.0 s.1) (round binary64 false w 1) (s.0 * up s.1) (down s.1) w 1 (down_pos s.1) (lit< tt) (refl, refl) v (subst (λ (z : Float). T (le z (round binary64 false w 1))) (s.2 false) b)),
       )
-      | inr s ↦ absurd (beyond (round binary64 false w 1) w v (subst (λ (z : Float). T (le z (round binary64 false w 1))) (s false) b))
+      | inr s ↦ absurd (no_top (round binary64 false w 1) w v (subst (λ (z : Float). T (le z (round binary64 false w 1))) (s false) b))
     ]
 
 -- ---- a quotient
@@ -85,10 +80,7 @@ times t (inr h) =
     let a = h.0 * up h.1 in
     let c = down h.1 in
     subst (UpTo 64) (sym (ap (λ (z : Float). of 64 ⊗ z) h.2 ∙ mul_over binary64 (of 64) (fin false h.0 h.1) false false 64 1 a c (lit< tt) (down_pos h.1) sixty_four (refl, refl)))
-    (rounded 64 (64 * a) (1 * c) (mul-pos (lit< tt) (down_pos h.1)) (lit≤ tt) (scale a c h.3))
-  where
-    scale : (a c : ℕ) → a ≤ 1 * c → 64 * a ≤ 64 * (1 * c)
-    scale a c h = omega arith
+    (rounded 64 (64 * a) (1 * c) (mul-pos (lit< tt) (down_pos h.1)) (lit≤ tt) (omega (arith, h.3)))
 
 whole_back : (n : ℕ) → n ≤ 64 → to_unsigned 64 (round binary64 false n 1) ≡ n
 unfolding of_int

@@ -3,6 +3,7 @@ use Rattle.std.proofs.Common.{◌≡◌, ℕ, ◌+◌, ◌*◌, ◌^◌, ◌<◌
 use lib.Ieee.{inf, fin, binary64, round, neg, is_nan, of_bits, to_bits, nan_bits}
 use lib.Ieee.Bits.{of_bits-to_bits, to_bits-lt, nan_bits_is}
 use lib.Ieee.Fits.{round-fits}
+use Rattle.float.proofs.Intervals.{round_number}
 use Rattle.float.proofs.Exactly.{neg_round}
 use Rattle.float.proofs.Counts.{whole_value}
 use Rattle.float.proofs.Sums.{div_over}
@@ -14,10 +15,7 @@ use Rattle.trig.proofs.Rules.{sine_small}
 -- ---- a fraction rounded with either sign: the patterns differ in the sign's bit
 set_fin : (m : ℕ) (e : ℤ) → to_bits binary64 (fin true m e) ≡ to_bits binary64 (fin false m e) + 2 ^ 63
 unfolding to_bits
-set_fin m e = moved _ _
-  where
-    moved : (a b : ℕ) → 2 ^ 63 + a + b ≡ 0 + a + b + 2 ^ 63
-    moved a b = omega arith
+set_fin m e = omega arith
 
 set_inf : to_bits binary64 (inf true) ≡ to_bits binary64 (inf false) + 2 ^ 63
 unfolding to_bits
@@ -37,17 +35,9 @@ signed : (a c : ℕ) (b : Bool) → of_bits binary64 (to_bits binary64 (round bi
 signed a c true = ap (of_bits binary64) (add-zero (to_bits binary64 (round binary64 false a c))) ∙ of_bits-to_bits binary64 (round binary64 false a c) (round-fits binary64 false a c)
 signed a c false = ap (of_bits binary64) (sym (set_bit a c)) ∙ of_bits-to_bits binary64 (round binary64 true a c) (round-fits binary64 true a c) ∙ sym (neg_round binary64 false a c)
 
-no_nan : (u : Bool) (a c : ℕ) → T (not (is_nan (round binary64 u a c)))
-unfolding is_nan
-no_nan u a c =
-    elim (shape binary64 a c) [
-      | inl w ↦ rw (w.2 u) tt
-      | inr w ↦ rw (w u) tt
-    ]
-
 signed_no_nan : (a c : ℕ) (b : Bool) → T (not (is_nan (cond b (round binary64 false a c) (neg (round binary64 false a c)))))
-signed_no_nan a c true = no_nan false a c
-signed_no_nan a c false = rw (neg_round binary64 false a c) (no_nan true a c)
+signed_no_nan a c true = round_number false a c
+signed_no_nan a c false = rw (neg_round binary64 false a c) (round_number true a c)
 
 low_room : {n : ℕ} → n < 2 ^ 63 → (b : Bool) → n + cond b 0 (2 ^ 63) < 2 ^ 64
 low_room h true = omega arith
@@ -60,7 +50,7 @@ entry_round k h =
 
 module _ (k : ℕ) (h : k < 1025) where
   pub entry_number : T (not (is_nan (entry_of k)))
-  entry_number = rw (entry_round k h) (no_nan false (get_or sine_table k 0 * 1) (2 ^ 52 * 1))
+  entry_number = rw (entry_round k h) (round_number false (get_or sine_table k 0 * 1) (2 ^ 52 * 1))
 
   pub entry_room : (b : Bool) → to_bits binary64 (entry_of k) + cond b 0 (2 ^ 63) < 2 ^ 64
   entry_room b = rw (entry_round k h) (low_room (low_bits (get_or sine_table k 0 * 1) (2 ^ 52 * 1)) b)

@@ -17,7 +17,7 @@ use float::TWO_52;
 const MARK: f64 = 6755399441055744.0;
 
 // The size of round(y). The sum with 2^52 has a half go to the even one of its neighbours. It is shorter than
-// float::round, so that `sin_cos` is short enough to be compiled into the loops that call it.
+// float::round, as `sin_cos` is compiled into the loops that call it.
 fn nearest(y: f64) -> f64
     requires { le (abs_of y) (of 8191) ≡ true }
     ensures { result ≡ round_of (abs_of y) }
@@ -149,6 +149,8 @@ impl Sines {
         }
     }
 
+    // Compiled into the loops that call it: as a call it takes half as long again.
+    #[inline(always)]
     pub fn sin_cos(&self, x: f64) -> SinCos
         ensures { (result.sin ≡ sin_of x) × (result.cos ≡ cos_of x) }
     {

@@ -1,9 +1,2 @@
-// std::f64::consts: the circle's constants and the logarithms of 2 and of 10.
-
-pub const PI: f64 = 3.14159265358979323846264338327950288;
-
-pub const TAU: f64 = 6.28318530717958647692528676655900577;
-
-pub const LN_2: f64 = 0.693147180559945309417232121458176568;
-
-pub const LN_10: f64 = 2.30258509299404568401799145468436421;
+// The circle's constants and the logarithms of 2 and of 10.
+pub use std::f64::consts::{LN_2, LN_10, PI, TAU};

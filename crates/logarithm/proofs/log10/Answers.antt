@@ -2,7 +2,7 @@
 use Rattle.std.proofs.Common.{◌∙◌}
 use lib.Ieee.{of_bits, of_int}
 use Rattle.float.proofs.Compared.{yes, no}
-use Rattle.logarithm.proofs.Logs.{log_zero, log_none, log_infinite, log_normal, log_subnormal, above_number, raised_number}
+use Rattle.logarithm.proofs.Logs.{log_zero, log_none, log_infinite, log_normal, log_subnormal, raised_number}
 use Rattle.logarithm.proofs.log10.Goals as goal
 
 pub returns-then-y : goal.returns-then-y
@@ -16,10 +16,6 @@ float_to_bits-y c = raised_number c.args.y (yes c.well_formed.0.1) (yes c.if-y-2
 pub returns-then-y-4 : goal.returns-then-y-4
 unfolding of_bits of_int
 returns-then-y-4 c = c.log_bits.ensures ∙ log_subnormal c.args.y (yes c.well_formed.0.1) (yes c.if-y-2.true) (yes c.if-y-4.true)
-
-pub float_to_bits-y-then-y-3 : goal.float_to_bits-y-then-y-3
-unfolding of_bits
-float_to_bits-y-then-y-3 c = above_number c.args.y (yes c.if-y-2.true)
 
 pub returns-then-y-3 : goal.returns-then-y-3
 unfolding of_bits of_int

@@ -1,30 +1,21 @@
--- The invariant: the sum so far is the specification's sum of the first j numbers. Before the loop it is ZERO.
+-- The invariant: the sum so far is the specification's sum of the first numbers. Before the loop it is ZERO.
 use borrow.Author.Rules.{rules}
-use Rattle.complex.proofs.RowLaws.{c_sum_none0, c_sum_turn0, c_sum_done0}
+use native.Mathlib.Omega.{arith}
+use Rattle.complex.proofs.RowLaws.{c_sum_none0, c_sum_turn0, c_sum_done0, pair_read, pairs_number}
 use Rattle.complex.proofs.rows.sum.Goals as goal
 
-ruleset laws = (rules, c_sum_none0, c_sum_turn0, c_sum_done0)
+ruleset laws = (rules, c_sum_none0)
 
-pub loop-j-init : goal.loop-j-init
-loop-j-init c = search laws
+pub loop-re-init : goal.loop-re-init
+loop-re-init c = search laws
 
-pub overflow_add-a : goal.overflow_add-a
-overflow_add-a c = search laws
-
-pub get-requires : goal.get-requires
-get-requires c = search laws
-
-pub add-acc-requires : goal.add-acc-requires
-add-acc-requires c = search laws
-
-pub overflow_step-j : goal.overflow_step-j
-overflow_step-j c = search laws
-
-pub loop-j-smaller : goal.loop-j-smaller
-loop-j-smaller c = search laws
-
-pub loop-j-preserved : goal.loop-j-preserved
-loop-j-preserved c = search laws
+pub loop-re-preserved : goal.loop-re-preserved
+loop-re-preserved c =
+    let many = pairs_number c.args.row.now c.args.a c.args.n c.requires _ c.as_chunks.ensures.front_len in
+    let read = pair_read c.args.row.now c.args.a c.args.n c.requires _ c.loop-re.re-index c.as_chunks.ensures.front (omega arith) in
+    c_sum_turn0 _ c.args.a c.loop-re.re-index _ _ _ c.loop-re.invariant (rw c.new.ensures read) c.add-acc.ensures
 
 pub returns : goal.returns
-returns c = search laws
+returns c =
+    let many = pairs_number c.args.row.now c.args.a c.args.n c.requires _ c.as_chunks.ensures.front_len in
+    c_sum_done0 _ _ _ _ _ c.loop-re.invariant (omega arith) (omega arith)

@@ -4,11 +4,5 @@ use Rattle.complex.proofs.units.cos_sin.Goals as goal
 pub loop-k-init : goal.loop-k-init
 loop-k-init c = search stores
 
-pub put-requires : goal.put-requires
-put-requires c = search stores
-
 pub loop-k-preserved : goal.loop-k-preserved
 loop-k-preserved c = search stores
-
-pub returns : goal.returns
-returns c = search stores

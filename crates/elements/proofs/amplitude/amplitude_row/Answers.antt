@@ -7,14 +7,14 @@ use Rattle.elements.proofs.amplitude.amplitude_row.Goals as goal
 room : (c : After-make_row-made) → length c.make_row-made.result.now ≤ length c.args.row.now
 room c = let size = row_size _ _ _ _ c.make_row-made.ensures in omega arith
 
-pub slice_bounds-copy_from_slice-end : goal.slice_bounds-copy_from_slice-end
-slice_bounds-copy_from_slice-end c = room (goal.at.slice_bounds-copy_from_slice-end c).After-make_row-made
+pub slice_bounds-copy-end : goal.slice_bounds-copy-end
+slice_bounds-copy-end c = room (goal.at.slice_bounds-copy-end c).After-make_row-made
 
-pub slice_bounds-copy_from_slice-end-2 : goal.slice_bounds-copy_from_slice-end-2
-slice_bounds-copy_from_slice-end-2 c = sym (length-take-le _ _ (room (goal.at.slice_bounds-copy_from_slice-end-2 c).After-make_row-made))
+pub slice_bounds-copy-end-2 : goal.slice_bounds-copy-end-2
+slice_bounds-copy-end-2 c = sym (length-take-le _ _ (room (goal.at.slice_bounds-copy-end-2 c).After-make_row-made))
 
-pub copy_from_slice-requires : goal.copy_from_slice-requires
-copy_from_slice-requires c = length-take-le _ _ (room (goal.at.copy_from_slice-requires c).After-make_row-made)
+pub copy-requires : goal.copy-requires
+copy-requires c = length-take-le _ _ (room (goal.at.copy-requires c).After-make_row-made)
 
 pub row_threshold-requires : goal.row_threshold-requires
 row_threshold-requires c =
@@ -23,5 +23,5 @@ row_threshold-requires c =
 
 pub returns : goal.returns
 returns c =
-    rw c.copy_from_slice.ensures.after
+    rw c.copy.ensures
     (row_made _ _ _ _ _ _ c.make_row-made.ensures c.requires.row_in_bounds c.row_threshold.ensures)

@@ -4,13 +4,13 @@ use Rattle.engine.proofs.Counts.{listed_room, fitted_room, fitted_le_listed}
 use Rattle.engine.proofs.Ran.{found_out}
 use Rattle.engine.proofs.run.find_out.Goals as goal
 
-pub invariant_of-listed : goal.invariant_of-listed
-invariant_of-listed c =
+pub new-listed-requires : goal.new-listed-requires
+new-listed-requires c =
     let listed = listed_room _ _ _ _ c.estimate_strong-estimate.ensures.0 in
     omega (arith, listed, c.estimate_strong-estimate.auto.elements, c.requires.elements_room)
 
-pub invariant_of-fitted : goal.invariant_of-fitted
-invariant_of-fitted c =
+pub new-fitted-requires : goal.new-fitted-requires
+new-fitted-requires c =
     let fitted = fitted_room _ _ _ _ c.estimate_strong-estimate.ensures.0 in
     omega (arith, fitted, c.estimate_strong-estimate.auto.fits, c.requires.fits_room)
 
@@ -20,5 +20,8 @@ overflow_sub-result c = fitted_le_listed _ _ _ _ c.estimate_strong-estimate.ensu
 pub returns : goal.returns
 returns c =
     let is = c.estimate_strong-estimate.ensures in
-    let figures = found_out _ _ _ _ is.0 _ _ _ _ is.1 is.2 _ _ _ _ _ c.count.ensures c.window.ensures c.measure_both-m.ensures c.classify-hypothesis.ensures c.takes_off-taken.ensures in
+    let listed = c.new-listed.ensures in
+    let fitted = c.new-fitted.ensures in
+    let measures = rw (listed.0, listed.1, fitted.0, fitted.1) at c.measure_both-m.ensures in
+    let figures = found_out _ _ _ _ is.0 _ _ _ _ is.1 is.2 _ _ _ _ _ c.count.ensures c.window.ensures measures c.classify-hypothesis.ensures c.takes_off-taken.ensures in
     (figures, is.1, is.2)

@@ -1,11 +1,7 @@
--- `figures::optional::present` meets its contract: the literals are the whole numbers 1 and 0.
-use lib.Ieee.{of_bits, of_int}
+-- `figures::optional::present` meets its contract.
+use Rattle.std.proofs.Common.{◌∙◌}
+use Rattle.figures.proofs.Absent.{present_is}
 use Rattle.figures.proofs.optional.present.Goals as goal
 
-pub returns-in-Some : goal.returns-in-Some
-unfolding of_bits of_int
-returns-in-Some c = rw c.in-Some.is
-
-pub returns-in-None : goal.returns-in-None
-unfolding of_bits of_int
-returns-in-None c = rw c.in-None.is
+pub returns : goal.returns
+returns c = c.flag.ensures ∙ (rw c.is_some.ensures (present_is c.args.x))

@@ -1,7 +1,7 @@
 -- `float::single::narrow_bits` meets its contract: each range of `a` is a lemma of `proofs/Narrowing.antt`. Assumes
 -- nothing.
-use Rattle.std.proofs.Common.{◌≡◌, ℕ, ◌+◌, ◌-◌, ◌*◌, ◌/◌, ◌%◌, ◌^◌, sym, ◌∙◌, subst, one-mul, arith}
-use lib.Pow.{shl_exact}
+use Rattle.std.proofs.Common.{◌≡◌, ℕ, ◌+◌, ◌-◌, ◌*◌, ◌/◌, ◌%◌, ◌^◌, sym, subst, arith}
+use Rattle.std.proofs.lemmas.Nat.{one_shl}
 use Rattle.float.specs.Inner.{Narrowed}
 use Rattle.float.proofs.Narrowing.{normal, over, sub, tiny}
 use Rattle.float.proofs.single.narrow_bits.Goals as goal
@@ -12,7 +12,7 @@ k c = 925 - c.args.a / 0x10_0000_0000_0000
 
 -- `1 << k` loses nothing
 h-is : (c : goal.Then-a-ge3927138875067072512) → 1 * 2 ^ k c % 2 ^ 64 ≡ 2 ^ k c
-h-is c = shl_exact 1 (k c) 64 (omega arith) (omega arith) ∙ one-mul (2 ^ k c)
+h-is c = one_shl (k c) 64 (omega arith)
 
 pub returns-then-a-ge5183643171103440896 : goal.returns-then-a-ge5183643171103440896
 returns-then-a-ge5183643171103440896 c = over c.args.a c.if-a-ge5183643171103440896.true c.requires

@@ -1,5 +1,5 @@
 -- `float::whole::to_whole` meets its contract.
-use Rattle.std.proofs.Common.{◌≡◌, ℕ, ◌^◌, ◌<◌, ◌≤◌, T, ℤ, pos, nat_abs, sym, ap, ◌∙◌, subst, arith, w64, Fits, to_z, of_z}
+use Rattle.std.proofs.Common.{◌≡◌, ℕ, ◌^◌, ◌<◌, T, ℤ, pos, nat_abs, sym, ap, ◌∙◌, subst, arith, w64, Fits, to_z, of_z}
 use lib.Signed.{non_neg}
 use mir.ValLaws.{to_z_pos}
 use lib.Ieee.{Float, of_bits, lt, binary64, of_int, in_signed, to_signed, to_unsigned}
@@ -18,18 +18,12 @@ use Rattle.float.proofs.whole.to_whole.Goals as goal
 cast : (x t : Float) → T (lt nought x) → T (lt x limit) → t ≡ whole_by cut x → T (in_signed binary64 63 t) × (to_z w64 (of_z w64 (to_signed 63 t)) ≡ pos (to_unsigned 64 x)) × (to_unsigned 64 x < 2 ^ 52)
 cast x t h k e =
     let w = cut_is x h k in
-    let b = positive_back binary64 63 w.0 (whole_in binary64 w.0 (few w.0 w.1)) (less w.0 w.1) in
+    let b = positive_back binary64 63 w.0 (whole_in binary64 w.0 (omega (arith, w.1))) (omega (arith, w.1)) in
     let s : t ≡ of_int binary64 (pos w.0) = e ∙ w.3 in (
       subst (λ (z : Float). T (in_signed binary64 63 z)) (sym s) b.0,
-      ap (λ (z : ℤ). to_z w64 (of_z w64 z)) (ap (to_signed 63) s ∙ b.1) ∙ to_z_pos w64 w.0 (less w.0 w.1) ∙ ap pos (sym w.2),
+      ap (λ (z : ℤ). to_z w64 (of_z w64 z)) (ap (to_signed 63) s ∙ b.1) ∙ to_z_pos w64 w.0 (omega (arith, w.1)) ∙ ap pos (sym w.2),
       subst (λ (n : ℕ). n < 2 ^ 52) (sym w.2) w.1,
     )
-  where
-    few : (n : ℕ) → n < 2 ^ 52 → n ≤ 2 ^ 53
-    few n h = omega arith
-
-    less : (n : ℕ) → n < 2 ^ 52 → n < 2 ^ 63
-    less n h = omega arith
 
 above : (c : lts.Then1 tie.the-claims reads.Pre reads.Post tie.handed_clauses) → T (lt nought c.args.x)
 unfolding of_bits

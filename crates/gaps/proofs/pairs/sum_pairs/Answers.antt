@@ -13,7 +13,7 @@ pub lagged-requires-clause-first : goal.lagged-requires-clause-first
 lagged-requires-clause-first c = pair_later _ _ (sym c.pair_at.ensures ∙ c.if-pair_at.true)
 
 pub with-found-requires : goal.with-found-requires
-with-found-requires c = let few = pairs_few _ _ _ _ c.loop-b.invariant in omega (arith, few, c.args.held.now.grid.few)
+with-found-requires c = let few = pairs_few _ _ _ _ c.loop-b.invariant in omega (arith, few)
 
 pub loop-b-preserved : goal.loop-b-preserved
 loop-b-preserved c =

@@ -3,4 +3,4 @@ use Rattle.gaps.proofs.reference.find_reference.Goals as goal
 
 pub returns : goal.returns
 returns c =
-    reference_is _ _ _ _ _ _ _ _ _ _ _ c.side_level-side.ensures c.level_of-interior.ensures.0 c.unwrap_or-floor.ensures c.max.ensures c.max-2.ensures
+    reference_is _ _ _ _ _ _ _ _ _ _ _ c.side_level-side.ensures (rw c.args.classed.now.all at c.level_of-interior.ensures.0) c.unwrap_or-floor.ensures c.max.ensures c.max-2.ensures

@@ -11,5 +11,5 @@ use Rattle.gaps.proofs.reference.gap_powers.Given as goal
 
 abbrev pub invariant-loop-x : goal.invariant-loop-x
 invariant-loop-x l =
-    (l.from ≡ l.x-index * l.len) × (l.n ≤ l.x-index) × (l.n ≡ count_to (of_class l.held.codes.now Gap) l.x-index)
-    × (l.out ≡ keep l.initial.out 0 (of_class l.held.codes.now Gap) (block_power (block_mean l.held.grid.samples.iq.now l.cyc l.len)) l.x-index)
+    (l.from ≡ l.x-index * l.len) × (l.n ≤ l.x-index) × (l.n ≡ count_to (of_class l.classed.held.codes.now Gap) l.x-index)
+    × (l.out ≡ keep l.initial.out 0 (of_class l.classed.held.codes.now Gap) (block_power (block_mean l.samples.iq.now l.cyc l.len)) l.x-index)

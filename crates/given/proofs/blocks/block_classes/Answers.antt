@@ -11,14 +11,13 @@ pub returns-in_err-accept_classes : goal.returns-in_err-accept_classes
 unfolding classes_rule
 returns-in_err-accept_classes c = hands_on _ _ _ _ _ _ c.from_residual.ensures c.in_err-accept_classes.ensures
 
-pub invariant_of-elements : goal.invariant_of-elements
-invariant_of-elements c = record { room = (classes_accepted _ _ _ _ _ _ _ _ _ (sym c.in_ok-accept_classes.ensures)).element_room }
+pub sender-sender-requires : goal.sender-sender-requires
+sender-sender-requires c =
+    let known = classes_accepted _ _ _ _ _ _ _ _ _ (sym c.in_ok-accept_classes.ensures) in
+    record { elements_room = known.element_room; fits_room = known.fit_room }
 
-pub invariant_of-fits : goal.invariant_of-fits
-invariant_of-fits c = record { room = (classes_accepted _ _ _ _ _ _ _ _ _ (sym c.in_ok-accept_classes.ensures)).fit_room }
-
-pub new-rate-requires : goal.new-rate-requires
-new-rate-requires c = (classes_accepted _ _ _ _ _ _ _ _ _ (sym c.in_ok-accept_classes.ensures)).rate_ok_lem
+pub new-requires : goal.new-requires
+new-requires c = (classes_accepted _ _ _ _ _ _ _ _ _ (sym c.in_ok-accept_classes.ensures)).rate_ok_lem
 
 pub classify_blocks-requires-clause-n_bound : goal.classify_blocks-requires-clause-n_bound
 classify_blocks-requires-clause-n_bound c = omega (arith, (classes_accepted _ _ _ _ _ _ _ _ _ (sym c.in_ok-accept_classes.ensures)).short)
@@ -29,6 +28,7 @@ slice_bounds-classify_blocks-end c = omega (arith, (classes_accepted _ _ _ _ _ _
 pub returns : goal.returns
 unfolding classes_rule
 returns c =
-    let now = rw c.new-rate.ensures at c.classify_blocks.ensures in
+    let lent = c.sender-sender.ensures in
+    let now = rw (c.new.ensures, lent.elements.0, lent.elements.1, lent.fits.0, lent.fits.1) at c.classify_blocks.ensures in
     accepts _ _ c.args.classes.now _ _ c.in_ok-accept_classes.ensures refl
     (classes_made c.args.iq_len c.args.fs c.args.given.now.elements.now c.args.given.now.element_count c.args.given.now.fits.now c.args.given.now.fit_count _ _ c.args.classes.now _ c.window_blocks-blocks.ensures now c.count_classes-counts.ensures c.classes-1.given.0)

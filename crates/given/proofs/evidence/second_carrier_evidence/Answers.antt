@@ -1,5 +1,5 @@
--- `given::second_carrier_evidence` meets its contract: the first no is the answer, and where there is none, what the work
--- below measures.
+-- `given::second_carrier_evidence` meets its contract: the first no is the answer, and where there is none, what the
+-- work below measures.
 use native.Mathlib.Omega.{arith}
 use mathlib.Core.Path.{refl, sym}
 use Rattle.given.specs.Evidence.{evidence_rule}
@@ -12,11 +12,10 @@ new-recording-requires c =
     let known = measure_accepted _ _ _ _ _ _ _ _ _ (sym c.in_ok-accept_measure.ensures) in
     record { iq = known.iq_ok; rate = known.rate_ok_lem }
 
-pub invariant_of-elements : goal.invariant_of-elements
-invariant_of-elements c = record { room = (measure_accepted _ _ _ _ _ _ _ _ _ (sym c.in_ok-accept_measure.ensures)).given.element_room }
-
-pub invariant_of-fits : goal.invariant_of-fits
-invariant_of-fits c = record { room = (measure_accepted _ _ _ _ _ _ _ _ _ (sym c.in_ok-accept_measure.ensures)).given.fit_room }
+pub sender-requires : goal.sender-requires
+sender-requires c =
+    let known = measure_accepted _ _ _ _ _ _ _ _ _ (sym c.in_ok-accept_measure.ensures) in
+    record { elements_room = known.given.element_room; fits_room = known.given.fit_room }
 
 pub second_carrier_evidence-evidence-requires : goal.second_carrier_evidence-evidence-requires
 second_carrier_evidence-evidence-requires c =
@@ -31,5 +30,6 @@ pub returns-clause-work_after : goal.returns-clause-work_after
 unfolding evidence_rule
 returns-clause-work_after c =
     let is = c.new-recording.ensures in
-    let now = rw (is.0, is.1) at c.second_carrier_evidence-evidence.ensures in
+    let lent = c.sender.ensures in
+    let now = rw (is.0, is.1, lent.carrier, lent.elements.0, lent.elements.1, lent.fits.0, lent.fits.1) at c.second_carrier_evidence-evidence.ensures in
     accepts _ _ _ _ _ c.in_ok-accept_measure.ensures refl (evidence_result _ _ _ _ now (omega arith))

@@ -15,5 +15,5 @@ use Rattle.measure.proofs.offset.paired_power.Given as goal
 abbrev pub invariant-loop-b : goal.invariant-loop-b
 invariant-loop-b l =
     (l.from ≡ l.b * l.len)
-    × (l.sum ≡ sum_over (block_power (block_mean l.held.grid.samples.iq.now l.cyc l.len)) minus_zero
-    (picked (in_pair (above (of_class l.held.codes.now Gap) (z_at l.held.means.now) l.level) l.held.grid.blocks) (λ k. k) l.b))
+    × (l.sum ≡ sum_over (block_power (block_mean l.samples.iq.now l.cyc l.len)) minus_zero
+    (picked (in_pair (above (of_class l.classed.held.codes.now Gap) (z_at l.classed.held.means.now) l.level) l.classed.grid.blocks.count) (λ k. k) l.b))

@@ -1,10 +1,7 @@
-use Rattle.measure.proofs.Grids.{grid_count, held}
 use Rattle.measure.proofs.Figures.{check_is}
 use Rattle.measure.proofs.residual.residual_check.Goals as goal
 
 pub returns : goal.returns
 returns c =
-    let made = c.prepare-grid.ensures in
-    let count = grid_count _ _ _ _ _ _ made.grid.0 made.grid.1 c.prepare-grid.result.window_is c.prepare-grid.result.blocks_are in
-    let there = held _ _ _ _ _ _ _ _ made.prepared count c.split_at_mut-held.ensures.front c.new.ensures.held in
-    check_is _ _ _ _ _ _ _ _ _ _ made.grid.1 count there (rw c.new.ensures.grid at c.residual.ensures)
+    let ready = c.make_ready-free.ensures in
+    check_is _ _ _ _ _ _ _ _ _ _ ready.grid.1 ready.count ready.held c.residual.ensures

@@ -5,4 +5,4 @@ use Rattle.prepared.proofs.Less.{Turned}
 use Rattle.prepared.proofs.left.subtract_fit.Given as goal
 
 abbrev pub invariant-loop-b : goal.invariant-loop-b
-invariant-loop-b l = (l.from ≡ l.b * l.len) × Turned l.grid.rate.hz l.len l.grid.blocks l.f l.initial.row l.row l.b
+invariant-loop-b l = (l.from ≡ l.b * l.len) × Turned l.blocks.fs l.len l.blocks.count l.f l.initial.row l.row l.b

@@ -8,4 +8,4 @@ use Rattle.prepared.proofs.left.subtract_from_means.Given as goal
 
 abbrev pub invariant-loop-place : goal.invariant-loop-place
 invariant-loop-place l =
-    (b : ℕ) → b < l.held.grid.blocks → z_at l.left b ≡ less_fits l.held.grid.rate.hz l.held.grid.window l.held.grid.blocks (fits_in l.fits.numbers.now l.place-index) b (z_at l.initial.left b)
+    (b : ℕ) → b < l.blocks.count → z_at l.row b ≡ less_fits l.blocks.fs l.blocks.window l.blocks.count (fits_in l.fits.numbers.now l.place-index) b (z_at l.initial.row b)

@@ -1,12 +1,12 @@
 -- `rank::select::value` meets its contract.
 use Rattle.std.proofs.Common.{sym}
 use lib.Ieee.{of_bits}
-use Rattle.rank.specs.Inner.{value_of}
+use Rattle.rank.specs.Inner.{of_ordinal}
 use Rattle.rank.proofs.Ordinals.{value_low, value_high, low_number, high_number, ordinal_under}
 use Rattle.rank.proofs.select.value.Goals as goal
 
 pub returns-then-k-eq18446744073709551615 : goal.returns-then-k-eq18446744073709551615
-unfolding of_bits value_of
+unfolding of_bits of_ordinal
 returns-then-k-eq18446744073709551615 c = rw c.if-k-eq18446744073709551615.true
 
 pub float_from_bits-result : goal.float_from_bits-result

@@ -1,12 +1,7 @@
--- `stored::equal::same_list` meets its contract.
-use Rattle.std.proofs.Common.{rules, tests, arith, ◌∙◌}
-use Rattle.std.proofs.lemmas.Iterator.{YieldsList-from_slice, YieldsList-from_zip, YieldsList-from_take}
-use Rattle.std.proofs.lemmas.Iterator.Consumers.{YieldsList-at}
-use Rattle.std.proofs.lemmas.Iterator.Search.{all_from_yields_List}
-use Rattle.stored.proofs.Rows.{same_pair, firsts_by_pairs}
+-- `stored::equal::same_list` meets its contract: a number is its own value.
+use Rattle.std.proofs.Common.{◌∙◌}
+use Rattle.stored.proofs.Rows.{own_values}
 use Rattle.stored.proofs.equal.same_list.Goals as goal
 
-pub returns-then-n-b : goal.returns-then-n-b
-returns-then-n-b c =
-    all_from_yields_List same_pair c.all.new.self _ _ c.all.ensures.ran (YieldsList-from_take c.args.n (YieldsList-at c.take.ensures.source (YieldsList-from_zip (YieldsList-from_slice c.args.a.now cc) (YieldsList-from_slice c.args.b.now cc))) cc) (λ x b q k. search (rules, tests))
-    ∙ firsts_by_pairs _ _ _ (omega arith) (omega arith)
+pub returns : goal.returns
+returns c = c.same_firsts.ensures (λ x. x) (λ x y e. e) ∙ own_values c.args.a.now c.args.b.now c.args.n

@@ -1,13 +1,7 @@
 -- `trig::circle::Sines::within_seven` meets its contract: each callee's answer in its place.
 use Rattle.trig.specs.Circle.{sin_of, cos_of}
-use Rattle.trig.proofs.Quarters.{mirrored, further}
-use Rattle.std.proofs.Common.{rules}
+use Rattle.trig.proofs.Quarters.{further}
 use Rattle.trig.proofs.circle.Sines.within_seven.Goals as goal
-
-pub sine_at-w-requires : goal.sine_at-w-requires
-sine_at-w-requires c =
-    let turned = c.turned-p in
-    record { p_bound = search rules; k_bound = search rules; k_value = rw c.fold-k.ensures.0 (mirrored turned.result.at turned.ensures.2) }
 
 pub returns : goal.returns
 unfolding sin_of cos_of
