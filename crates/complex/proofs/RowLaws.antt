@@ -11,6 +11,8 @@ use lib.ListN.{length, get_or, set, take, drop, length-set, length-drop}
 use lib.Seq.{get_or-set_same, get_or-set_other, get_or-take, get_or-drop, length-take-le}
 use lib.Ieee.{Float, nan}
 use Rattle.std.specs.Simd.{first_chunks}
+use Rattle.lists.specs.Fill.{fill}
+use Rattle.lists.proofs.Fill.{get_d_fill_below}
 use Rattle.lists.proofs.Chunks.{chunk_read}
 use Rattle.complex.specs.declared.value.Complex.{Complex}
 use Rattle.complex.specs.Value.{c_new, c_zero, c_add}
@@ -83,6 +85,9 @@ pub z_fill_turn0 : (l : List Float) (f : ℕ → Complex) (n : ℕ) (cur new : L
 unfolding z_fill
 z_fill_turn0 l f n cur new z p e h = let here : 0 + n ≡ n = omega arith in rw (add-one, here, h, p, e)
 
+pub z_fill_done : (l : List Float) (at : ℕ) (f : ℕ → Complex) (n k : ℕ) (cur : List Float) → cur ≡ z_fill l at f k → k ≤ n → n ≤ k → cur ≡ z_fill l at f n
+z_fill_done l at f n k cur p h g = let all : k ≡ n = omega arith in rw all at p
+
 pub length_z_fill : (l : List Float) (at : ℕ) (f : ℕ → Complex) (n : ℕ) → length (z_fill l at f n) ≡ length l
 unfolding z_fill
 length_z_fill l at f zero = refl
@@ -133,3 +138,8 @@ pub z_fill_cong : (l : List Float) (at : ℕ) (f g : ℕ → Complex) (n : ℕ) 
 unfolding z_fill
 z_fill_cong l at f g zero h = refl
 z_fill_cong l at f g (suc n) h = rw (z_fill_cong l at f g n (λ k b. h k (omega arith)), h n (omega arith))
+
+-- what lies below a row of floats is as it was
+pub z_at_fill_below : (l : List Float) (at : ℕ) (f : ℕ → Float) (n k : ℕ) → 2 * k + 1 < at → z_at (fill l at f n) k ≡ z_at l k
+z_at_fill_below l at f n k h =
+    rw (get_d_fill_below l at f n (2 * k) nan (omega arith), get_d_fill_below l at f n (2 * k + 1) nan h)

@@ -41,6 +41,18 @@ module _ {A : Type 0} where
   fill_cong l at f g zero h = refl
   fill_cong l at f g (suc n) h = rw (fill_cong l at f g n (λ k b. h k (omega arith)), h n (omega arith))
 
+  -- what lies below the row, or above it, is as it was
+  pub get_d_fill_below : (l : List A) (at : ℕ) (f : ℕ → A) (n k : ℕ) (d : A) → k < at → get_or (fill l at f n) k d ≡ get_or l k d
+  unfolding fill
+  get_d_fill_below l at f zero k d h = refl
+  get_d_fill_below l at f (suc n) k d h = get_or-set_other (fill l at f n) (at + n) k (f n) d (omega arith) ∙ get_d_fill_below l at f n k d h
+
+  pub get_d_fill_above : (l : List A) (at : ℕ) (f : ℕ → A) (n k : ℕ) (d : A) → at + n ≤ k → get_or (fill l at f n) k d ≡ get_or l k d
+  unfolding fill
+  get_d_fill_above l at f zero k d h = refl
+  get_d_fill_above l at f (suc n) k d h =
+      get_or-set_other (fill l at f n) (at + n) k (f n) d (omega arith) ∙ get_d_fill_above l at f n k d (omega arith)
+
   -- what was stored is read back
   pub get_d_fill : (l : List A) (at : ℕ) (f : ℕ → A) (n k : ℕ) (d : A) → k < n → at + n ≤ length l → get_or (fill l at f n) (at + k) d ≡ f k
   unfolding fill

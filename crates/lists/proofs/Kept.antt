@@ -25,7 +25,11 @@ module _ {A : Type 0} where
       go true e = simp length-set e
       go false e = e
 
-  -- a turn of the loop that keeps a value, and one that does not
+  -- the loop: before it, a turn that keeps a value, and one that does not
+  pub keep_none : (l : List A) (at : ℕ) (p : ℕ → Bool) (f : ℕ → A) → l ≡ keep l at p f 0
+  unfolding keep
+  keep_none l at p f = refl
+
   pub keep_yes : (l : List A) (at : ℕ) (p : ℕ → Bool) (f : ℕ → A) (n m : ℕ) (cur new : List A) (v : A)
       → cur ≡ keep l at p f n → m ≡ count_to p n → p n ≡ true → v ≡ f n → new ≡ set cur (at + m) v → new ≡ keep l at p f (n + 1)
   unfolding keep
@@ -35,6 +39,17 @@ module _ {A : Type 0} where
       → cur ≡ keep l at p f n → p n ≡ false → cur ≡ keep l at p f (n + 1)
   unfolding keep
   keep_no l at p f n cur e t = rw (add-one, t) e
+
+  -- what lies below is as it was
+  pub get_d_keep_below : (l : List A) (at : ℕ) (p : ℕ → Bool) (f : ℕ → A) (n k : ℕ) (d : A) → k < at → get_or (keep l at p f n) k d ≡ get_or l k d
+  unfolding keep
+  get_d_keep_below l at p f zero k d h = refl
+  get_d_keep_below l at p f (suc n) k d h = go (p n) (get_d_keep_below l at p f n k d h)
+    where
+      go : (t : Bool) → get_or (keep l at p f n) k d ≡ get_or l k d
+          → get_or (cond t (set (keep l at p f n) (at + count_to p n) (f n)) (keep l at p f n)) k d ≡ get_or l k d
+      go true e = get_or-set_other (keep l at p f n) (at + count_to p n) k (f n) d (omega arith) ∙ e
+      go false e = e
 
   -- what was kept is read back
   pub get_d_keep : (l : List A) (at : ℕ) (p : ℕ → Bool) (f : ℕ → A) (n k : ℕ) (d : A)

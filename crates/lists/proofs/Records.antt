@@ -6,9 +6,11 @@ use native.Mathlib.Omega.{arith}
 use mathlib.Core.Path.{◌≡◌, refl, ap, ◌∙◌}
 use mathlib.Core.List.{List, [], ◌∷◌, ◌++◌}
 use lib.ListN.{length, get_or, take, drop, drop_of_length-le}
-use lib.Ieee.{Float}
+use lib.Ieee.{Float, nan}
+use Rattle.lists.specs.Fill.{fill}
 use Rattle.lists.specs.Firsts.{firsts}
 use Rattle.lists.specs.Records.{beyond_places, Handed, handed, handed_numbers, keeping, stored_by}
+use Rattle.lists.proofs.Fill.{length_fill, part_fill}
 use Rattle.lists.proofs.Firsts.{firsts_all}
 
 -- ---- one record: what the two functions have to do with its width
@@ -114,3 +116,10 @@ numbers_handed l cur xs n size first =
 pub numbers_read : (cur l : List Float) (n : ℕ) (xs : List Float) → handed_numbers cur n ≡ handed 1 xs l → take n cur ≡ xs
 unfolding handed handed_numbers
 numbers_read cur l n xs e = ap (λ h. h.records) e
+
+-- a list to whose start another is copied
+pub copied_handed : (l xs : List Float) → length xs ≤ length l → handed_numbers (fill l 0 (λ k. get_or xs k nan) (length xs)) (length xs) ≡ handed 1 xs l
+copied_handed l xs room =
+    let at : ℕ → Float = λ k. get_or xs k nan in
+    numbers_handed l (fill l 0 at (length xs)) xs (length xs) (length_fill l 0 at (length xs))
+    (part_fill l 0 at (length xs) nan (omega arith) ∙ firsts_all at xs nan (λ k b. refl))

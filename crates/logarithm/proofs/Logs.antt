@@ -137,6 +137,12 @@ log_subnormal (fin false zero p) f h l = absurd (no_less p h)
 log_subnormal (fin false (suc n) p) f h l = subnormal n p f l
 
 -- ---- no NaN
+pub above_number : (y : Float) → T (lt nought y) → T (not (is_nan y))
+unfolding lt is_nan
+above_number nan h = absurd h
+above_number (inf s) h = tt
+above_number (fin s n p) h = tt
+
 pub raised_number : (y : Float) → T (fits binary64 y) → T (lt nought y) → T (lt y tiny) → T (not (is_nan (times54 y)))
 unfolding lt
 raised_number nan f h l = absurd h
