@@ -1,5 +1,5 @@
 -- Where something is counted: in the program's counts by their names, and so at its place among all of them.
-use Rattle.std.proofs.Common.{◌≡◌, ℕ, ◌+◌, ◌-◌, ◌^◌, ◌<◌, ◌≤◌, min, not, Bool, true, false, cond, List, [], ◌∷◌, ◌++◌, length, get_or, nat_lt, refl, sym, ◌∙◌, arith, le-ltb, ne_eqb, lt-ltb, ltb-true, ltb-false, length-append, append_assoc, lit≤, length-set, Option, Some, None, is_some, unwrap_or}
+use Rattle.std.proofs.Common.{◌≡◌, ℕ, ◌+◌, ◌-◌, ◌^◌, ◌<◌, ◌≤◌, ◌==◌, min, not, Bool, true, false, cond, List, [], ◌∷◌, ◌++◌, length, get_or, nat_lt, refl, sym, ◌∙◌, arith, le-ltb, ne_eqb, lt-ltb, ltb-true, ltb-false, length-append, append_assoc, lit≤, length-set}
 use Rattle.std.specs.Int.{from_bool}
 use Rattle.std.proofs.lemmas.List.{set-append_left, set-append_right, get_or-append-add, set-get_or}
 use Rattle.std.proofs.Math.ListN.{get_or-append}
@@ -123,21 +123,21 @@ module _ (s : Tally) (l : Long s) (call : ℕ) (equal : Bool) where
   counted true number t e = rw (e, asked_meant) (sym (at_refused (in_meant s call equal) long_meant number 0))
   counted false number t e = rw (e, asked_stored) (sym (at_refused (in_stored s call equal) long_stored number 1))
 
--- ---- an accepted run
-module _ (s : Tally) (l : Long s) (hypothesis : ℕ) where
-  module _ (taken : Bool) (changed : ℕ) where
-    ran_so : counts (record s { hypotheses = row_after s.hypotheses hypothesis 1; broken = broken_after s.hypotheses s.broken hypothesis 1; taken = sum_of s.taken (cond taken 1 0); changed = sum_of s.changed (cond taken changed 0) }) ≡ ran_of 0 hypothesis taken changed (counts s)
-    unfolding ran_of
-    ran_so =
-        let found : Tally = record s { hypotheses = row_after s.hypotheses hypothesis 1; broken = broken_after s.hypotheses s.broken hypothesis 1 } in
-        let long : Long found = record { stored_asked = l.stored_asked; stored_equal = l.stored_equal; meant_asked = l.meant_asked; meant_equal = l.meant_equal; refused = l.refused; hypotheses = length-row_after s.hypotheses hypothesis 1 ∙ l.hypotheses } in
-        let took : Tally = record found { taken = sum_of s.taken (cond taken 1 0) } in
-        let as_long : Long took = record { stored_asked = l.stored_asked; stored_equal = l.stored_equal; meant_asked = l.meant_asked; meant_equal = l.meant_equal; refused = l.refused; hypotheses = length-row_after s.hypotheses hypothesis 1 ∙ l.hypotheses } in
-        rw (at_hypotheses s l hypothesis 1, at_taken found long 0 (cond taken 1 0)) (sym (at_changed took as_long 0 (cond taken changed 0)))
+-- ---- a run, by the number that refused it
+accepted_once : (b : Bool) → from_bool b ≡ cond b 1 0
+accepted_once true = refl
+accepted_once false = refl
 
-  pub ran : (taken : Option ℕ) → counts (record s { hypotheses = row_after s.hypotheses hypothesis 1; broken = broken_after s.hypotheses s.broken hypothesis 1; taken = sum_of s.taken (from_bool (is_some taken)); changed = sum_of s.changed (unwrap_or taken 0) }) ≡ ran_of 0 hypothesis (is_some taken) (unwrap_or taken 0) (counts s)
-  ran (Some changed) = ran_so true changed
-  ran None = ran_so false 0
+module _ (s : Tally) (l : Long s) (number hypothesis : ℕ) (taken : Bool) (changed : ℕ) where
+  pub ran : (samples : ℕ) → samples ≡ cond taken changed 0 → counts (record s { hypotheses = row_after s.hypotheses hypothesis (from_bool (number == 0)); broken = broken_after s.hypotheses s.broken hypothesis (from_bool (number == 0)); taken = sum_of s.taken (from_bool taken); changed = sum_of s.changed samples }) ≡ ran_of number hypothesis taken changed (counts s)
+  unfolding ran_of
+  ran samples e =
+      let accepted = cond (number == 0) 1 0 in
+      let found : Tally = record s { hypotheses = row_after s.hypotheses hypothesis accepted; broken = broken_after s.hypotheses s.broken hypothesis accepted } in
+      let long : Long found = record { stored_asked = l.stored_asked; stored_equal = l.stored_equal; meant_asked = l.meant_asked; meant_equal = l.meant_equal; refused = l.refused; hypotheses = length-row_after s.hypotheses hypothesis accepted ∙ l.hypotheses } in
+      let took : Tally = record found { taken = sum_of s.taken (cond taken 1 0) } in
+      let as_long : Long took = record { stored_asked = l.stored_asked; stored_equal = l.stored_equal; meant_asked = l.meant_asked; meant_equal = l.meant_equal; refused = l.refused; hypotheses = length-row_after s.hypotheses hypothesis accepted ∙ l.hypotheses } in
+      rw (accepted_once (number == 0), accepted_once taken, e, at_hypotheses s l hypothesis accepted, at_taken found long 0 (cond taken 1 0)) (sym (at_changed took as_long 0 (cond taken changed 0)))
 
 -- ---- a run that is refused adds nothing, where no count is above the largest number
 module _ (t : List ℕ) (within : (i : ℕ) → get_or t i 0 ≤ 2 ^ 64 - 1) where

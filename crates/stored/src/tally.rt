@@ -122,9 +122,21 @@ impl Tally {
         let Ok(found) = r.answer else {
             return;
         };
-        add(&mut self.hypotheses, &mut self.broken, found.hypothesis, 1);
-        self.taken = self.taken.saturating_add(u64::from(found.taken.is_some()));
-        self.changed = self.changed.saturating_add(found.taken.unwrap_or(0));
+        let changed = found.taken.unwrap_or(0);
+        self.count_run_numbered(0, found.hypothesis, found.taken.is_some(), changed);
+    }
+
+    // The same of a run by the number that refused it, 0 where it is accepted, by whether it said taken and by how many
+    // samples it changed, whatever goes with what: a refused run may say taken, and one that did not may have changed
+    // samples, which are not counted. A `Ran` has no such values, so of it alone less would be promised.
+    pub fn count_run_numbered(&mut self, number: u64, hypothesis: usize, taken: bool, changed: u64)
+        ensures { counts self.new ≡ ran_of number hypothesis taken changed (counts self.old) }
+    {
+        let accepted = u64::from(number == 0);
+        add(&mut self.hypotheses, &mut self.broken, hypothesis, accepted);
+        let samples = if taken { changed } else { 0 };
+        self.taken = self.taken.saturating_add(u64::from(taken));
+        self.changed = self.changed.saturating_add(samples);
     }
 
     // Counts an end of the stored answers.
