@@ -50,6 +50,21 @@ impl Read {
         }
     }
 
+    // The same read, of an input that goes into another number of bytes: so it can be asked what it means in any room
+    // that it fits into, and not only in the one that it was made in.
+    pub fn in_room(self, other: usize) -> Read
+        requires { self.there + self.asked ≤ other }
+        ensures { (result.room ≡ other) × (result.there ≡ self.there) × (result.asked ≡ self.asked)
+            × (result.answer ≡ self.answer) }
+    {
+        Read {
+            room: other,
+            there: self.there,
+            asked: self.asked,
+            answer: self.answer,
+        }
+    }
+
     #[tactic(auto, unfolding(crate::specs::Input::reading_of))]
     pub fn meaning(self) -> Reading
         ensures { result ≡ reading_of self }
