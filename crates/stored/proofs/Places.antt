@@ -152,3 +152,10 @@ module _ (t : List ℕ) (within : (i : ℕ) → get_or t i 0 ≤ 2 ^ 64 - 1) whe
   unfolding ran_of
   refused_run number hypothesis h =
       rw (ne_eqb number 0 h, plus_nothing HYPOTHESIS HYPOTHESES hypothesis, plus_nothing TAKEN 1 0) (plus_nothing CHANGED 1 0)
+
+-- ---- counting at a place, whatever row it is named by
+pub at_place : (first places k i more : ℕ) (t : List ℕ) → i ≡ place_of first places k → (row many j : ℕ) → i ≡ row + j → j < many → i < PLACES → plus first places k more t ≡ plus row many j more t
+unfolding plus place_of
+at_place first places k i more t e row many j f g h =
+    let within : row + j < PLACES = omega arith in
+    rw (← e, lt-ltb j many g, lt-ltb (row + j) PLACES within, f) refl

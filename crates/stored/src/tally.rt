@@ -1,7 +1,7 @@
 // What is counted.
-ghost use Rattle.std.specs.Prelude.{◌≡◌, replicate, is_some, MatchResult, if◌then◌else◌};
+ghost use Rattle.std.specs.Prelude.{◌≡◌, ◌<◌, replicate, is_some, MatchResult, if◌then◌else◌};
 ghost use Rattle.std.specs.Option.{unwrap_or};
-ghost use Rattle.stored.specs.Tally.{PLACES, ENDS, BROKEN, plus, counted_of, ran_of, counts};
+ghost use Rattle.stored.specs.Tally.{PLACES, ENDS, BROKEN, place_of, plus, counted_of, ran_of, counts};
 ghost use Rattle.stored.specs.Inner.{group_after, broken_in, in_group, row_after, broken_after};
 ghost use Rattle.stored.specs.Kinds.{call_number};
 
@@ -9,11 +9,30 @@ use crate::answer::{Answered, Ran};
 use crate::kind::Call;
 
 // As many calls, numbers of a refusal (0 stands for what is accepted) and hypotheses as there is room for.
-const CALLS: usize = 24;
+pub const CALLS: usize = 24;
 
-const NUMBERS: usize = 20;
+pub const NUMBERS: usize = 20;
 
-const HYPOTHESES: usize = 4;
+pub const HYPOTHESES: usize = 4;
+
+// Where rows and counts begin, one behind the other as in `counts`: EQUAL in a group, the others among all counts.
+pub const EQUAL: usize = CALLS;
+
+pub const MEANT: usize = EQUAL + CALLS;
+
+pub const REFUSED: usize = MEANT + EQUAL + CALLS;
+
+pub const HYPOTHESIS: usize = REFUSED + NUMBERS;
+
+pub const TAKEN: usize = HYPOTHESIS + HYPOTHESES;
+
+pub const CHANGED: usize = TAKEN + 1;
+
+pub const ENDS: usize = CHANGED + 1;
+
+pub const BROKEN: usize = ENDS + 1;
+
+const PLACES: usize = BROKEN + 1;
 
 // A group of cases, call by call: how many were asked, and how many of them are equal. Two rows, and not one of pairs:
 // so `counts` has them one behind the other.
@@ -67,6 +86,18 @@ fn add(row: &mut [u64], broken: &mut u64, k: usize, more: u64)
         row[k] = row[k].saturating_add(more);
     } else {
         *broken = broken.saturating_add(more);
+    }
+}
+
+// The place among all counts that is k after the first of so many; what has no place is counted as broken.
+#[tactic(auto, unfolding(crate::specs::Tally::place_of))]
+fn place(first: usize, places: usize, k: usize) -> usize
+    ensures value { result ≡ place_of first places k }
+    ensures within { result < PLACES }
+{
+    match first.checked_add(k) {
+        Some(i) if k < places && i < PLACES => i,
+        _ => BROKEN,
     }
 }
 
@@ -151,5 +182,35 @@ impl Tally {
         ensures { counts self.new ≡ plus BROKEN 1 0 1 (counts self.old) }
     {
         self.broken = self.broken.saturating_add(1);
+    }
+
+    // Counts at any place among all counts: the one that is k after the first of so many. The methods above count at
+    // one such place or a few; what is promised of any first, number of places and k stands here.
+    pub fn count_at(&mut self, first: usize, places: usize, k: usize, more: u64)
+        ensures { counts self.new ≡ plus first places k more (counts self.old) }
+    {
+        let i = place(first, places, k);
+        if i < EQUAL {
+            add(&mut self.stored.asked, &mut self.broken, i, more);
+        } else if i < MEANT {
+            add(&mut self.stored.equal, &mut self.broken, i - EQUAL, more);
+        } else if i < MEANT + EQUAL {
+            add(&mut self.meant.asked, &mut self.broken, i - MEANT, more);
+        } else if i < REFUSED {
+            let call = i - (MEANT + EQUAL);
+            add(&mut self.meant.equal, &mut self.broken, call, more);
+        } else if i < HYPOTHESIS {
+            add(&mut self.refused, &mut self.broken, i - REFUSED, more);
+        } else if i < TAKEN {
+            add(&mut self.hypotheses, &mut self.broken, i - HYPOTHESIS, more);
+        } else if i == TAKEN {
+            self.taken = self.taken.saturating_add(more);
+        } else if i == CHANGED {
+            self.changed = self.changed.saturating_add(more);
+        } else if i == ENDS {
+            self.ends = self.ends.saturating_add(more);
+        } else {
+            self.broken = self.broken.saturating_add(more);
+        }
     }
 }
