@@ -6,7 +6,7 @@ ghost use Rattle.elements.specs.Element.{elements_in};
 ghost use Rattle.fits.specs.List.{fits_in};
 ghost use Rattle.classes.specs.declared.class.BlockClass.TheVariants.{Edge, Interior, Other};
 ghost use Rattle.classes.specs.Class.{code_of, codes_of};
-ghost use Rattle.classes.specs.Classify.{times_of, blocks_of, in_range, inside, at_edge, on_rim, class_of, count_in, counts_in};
+ghost use Rattle.classes.specs.Classify.{times_of, blocks_of, in_range, inside, at_edge, on_rim, in_turn, class_of, count_in, counts_in};
 ghost use Rattle.classes.specs.Inner.{labelled, amid, element_labelled, fit_labelled};
 
 use crate::class::BlockClass;
@@ -126,6 +126,34 @@ fn label_fit(w: Windows, e: KeyedElement, class: &mut [f64])
     label_edge(w, e.end, class);
 }
 
+// Rust: the loop over the elements, of those of the fits.
+fn label_fitted(w: Windows, fits: &Fits, class: &mut [f64])
+    ensures { class.new ≡ in_turn (λ f. element_labelled w.rate.hz f.element) (fits_in fits.now.numbers.now fits.now.count) class.old }
+{
+    for place in fits.each() {
+        label_element(w, fit_at(place, 0).element, class);
+    }
+}
+
+// Rust: the loop over the elements, of those found.
+fn label_elements(w: Windows, elements: &Elements, class: &mut [f64])
+    ensures { class.new ≡ in_turn (element_labelled w.rate.hz) (elements_in elements.now.numbers.now elements.now.count) class.old }
+{
+    for place in elements.each() {
+        label_element(w, element_at(place, 0), class);
+    }
+}
+
+// Rust: the loop over the fits.
+fn label_fits(w: Windows, fits: &Fits, class: &mut [f64])
+    requires { length class.old ≤ 131072 }
+    ensures { class.new ≡ in_turn (λ f. fit_labelled w.rate.hz f.element) (fits_in fits.now.numbers.now fits.now.count) class.old }
+{
+    for place in fits.each() {
+        label_fit(w, fit_at(place, 0).element, class);
+    }
+}
+
 // Rust: the last loop.
 fn label_rim(w: Windows, n: usize, class: &mut [f64])
     requires n_bound { n ≤ 1048576 }
@@ -154,15 +182,9 @@ pub fn classify_blocks(
 {
     let w = Windows::new(rate);
     class.fill(f64::from(BlockClass::Gap));
-    for place in fits.each() {
-        label_element(w, fit_at(place, 0).element, class);
-    }
-    for place in elements.each() {
-        label_element(w, element_at(place, 0), class);
-    }
-    for place in fits.each() {
-        label_fit(w, fit_at(place, 0).element, class);
-    }
+    label_fitted(w, fits, class);
+    label_elements(w, elements, class);
+    label_fits(w, fits, class);
     label_rim(w, n, class);
 }
 
