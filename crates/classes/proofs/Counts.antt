@@ -5,6 +5,7 @@ use native.Mathlib.Omega.{arith}
 use mathlib.Core.Path.{◌≡◌, refl, sym, ap, ◌∙◌}
 use mathlib.Core.Bool.{Bool, true, false, cond}
 use mathlib.Core.List.{List}
+use mir.Val.{bool_byte}
 use lib.ListN.{length, get_or, take}
 use Rattle.std.specs.List.{count_by}
 use Rattle.std.proofs.lemmas.List.{take_all}
@@ -18,6 +19,11 @@ use Rattle.classes.specs.Class.{code_of, codes_of, is_class}
 use Rattle.classes.specs.Classify.{counts_of, count_in, counts_in}
 use Rattle.classes.proofs.Codes.{code_tells}
 use Rattle.classes.proofs.Classes.{codes_length, code_at}
+
+-- a test as a number
+pub as_bit : (t : Bool) → bool_byte t ≡ cond t 1 0
+as_bit true = refl
+as_bit false = refl
 
 -- how many of a list pass a test, by their places
 pub count_listed : (p : Float → Bool) (l : List Float) → count_by p l ≡ count_to (λ b. p (get_or l b nan)) (length l)

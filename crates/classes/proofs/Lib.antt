@@ -3,9 +3,9 @@
 -- Codes     the number of a class tells it: `code_tells`, `class_same`
 -- Classes   a slice that holds the numbers of a row of classes: `codes_length`, `code_at`; what labelling makes of it:
 --           `label_codes`, `turns_codes`, `class_by_steps`
--- Counts    how many of a list pass a test, by their places: `count_listed`; what a slice of classes counts:
---           `class_told`, `count_holds`, `counts_hold`; the four counts together are the number of blocks:
---           `blocks_counted`
+-- Counts    a test as a number: `as_bit`; how many of a list pass a test, by their places: `count_listed`; what a slice
+--           of classes counts: `class_told`, `count_holds`, `counts_hold`; the four counts together are the number of
+--           blocks: `blocks_counted`
 -- ByTimes   the class depends on the times alone: `class_by_times`, `class_by_places`
 -- Order     what the order of labelling comes to: `rim_is_other`; `last_start_is_edge`, `last_end_is_edge`,
 --           `last_inside_is_interior`; `near_no_gap`, `found_no_gap`
