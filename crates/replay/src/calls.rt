@@ -1,5 +1,11 @@
 // Each call on a stored case: whether all that it answers and leaves is what is stored, and the number that refused it.
-use crate::cases::{Case, Lent};
+// A call is lent as many numbers as its case names. Lists and work slice hold one number before the call, so that it
+// shows where a call wrote; the buffer holds the recording. Only the rows that a call is lent are made, and only what is
+// lent of them is filled. `inline(never)` keeps their room out of `ask`, which would go through all of it in each case:
+// a classify, which is lent none, would take six times as long.
+use crate::cases::Case;
+use crate::kept::Kept;
+use crate::sizes::{ELEMENTS, FITS, FLOATS, WORK};
 use cancel::{Refusal, RunFigures, SecondCarrierEvidence};
 use elements::ELEMENT;
 use figures::{
@@ -11,13 +17,27 @@ use stored::answer::{
     Answered, Found, Ran, figured_same, filled_same, kept_same, left_same, refused_same,
 };
 use stored::asked::{Asked, figures_from};
-use stored::equal::{changed, same_figures};
+use stored::equal::{LENT, changed, same_figures};
+use stored::kept::copied;
 use stored::units::{double, long};
 
 // Where a case's figures begin, in bytes.
 const FIGURES: usize = 88;
 
 const CLASSIFY_ANSWER: usize = 40;
+
+// The first n of a row, or all where it has fewer.
+fn first_mut<T>(row: &mut [T], n: usize) -> &mut [T] {
+    let end = n.min(row.len());
+    &mut row[..end]
+}
+
+// The same of a list or a work slice, as it is before the call.
+fn lent(row: &mut [f64], n: usize) -> &mut [f64] {
+    let lent = first_mut(row, n);
+    lent.fill(LENT);
+    lent
+}
 
 fn done(equal: bool) -> Answered {
     Answered {
@@ -52,18 +72,28 @@ fn left(case: Case, buf: &[f32]) -> bool {
     left_same(a.refused, a.changed, buf, case.iq, case.left)
 }
 
-pub fn find(case: Case, lent: Lent) -> Answered {
+#[inline(never)]
+pub fn find(body: &[u8], kept: &Kept) -> Answered {
+    let case = Case::new(body, kept);
     let a = case.asked;
-    let Lent { elements, work, .. } = lent;
+    let mut elements = [0.0; ELEMENTS];
+    let mut work = [0.0; WORK];
+    let elements = lent(&mut elements, a.elements);
+    let work = lent(&mut work, a.work);
     match cancel::find_elements(case.iq, a.fs, a.hint_hz, elements, work) {
         Err(no) => refused(a, no, elements, elements, work),
         Ok(f) => done(figured(case, &of_find(f)) && listed(case, elements)),
     }
 }
 
-pub fn fit(case: Case, lent: Lent) -> Answered {
+#[inline(never)]
+pub fn fit(body: &[u8], kept: &Kept) -> Answered {
+    let case = Case::new(body, kept);
     let a = case.asked;
-    let Lent { fits, work, .. } = lent;
+    let mut fits = [0.0; FITS];
+    let mut work = [0.0; WORK];
+    let fits = lent(&mut fits, a.fits);
+    let work = lent(&mut work, a.work);
     match cancel::fit_elements(
         case.iq,
         a.fs,
@@ -78,14 +108,16 @@ pub fn fit(case: Case, lent: Lent) -> Answered {
     }
 }
 
-pub fn estimate(case: Case, lent: Lent) -> Answered {
+#[inline(never)]
+pub fn estimate(body: &[u8], kept: &Kept) -> Answered {
+    let case = Case::new(body, kept);
     let a = case.asked;
-    let Lent {
-        elements,
-        fits,
-        work,
-        ..
-    } = lent;
+    let mut elements = [0.0; ELEMENTS];
+    let mut fits = [0.0; FITS];
+    let mut work = [0.0; WORK];
+    let elements = lent(&mut elements, a.elements);
+    let fits = lent(&mut fits, a.fits);
+    let work = lent(&mut work, a.work);
     match cancel::estimate_strong(case.iq, a.fs, a.hint_hz, elements, fits, work) {
         Err(no) => refused(a, no, elements, fits, work),
         Ok(e) => done(
@@ -94,9 +126,12 @@ pub fn estimate(case: Case, lent: Lent) -> Answered {
     }
 }
 
-pub fn residual(case: Case, lent: Lent) -> Answered {
+#[inline(never)]
+pub fn residual(body: &[u8], kept: &Kept) -> Answered {
+    let case = Case::new(body, kept);
     let a = case.asked;
-    let work = lent.work;
+    let mut work = [0.0; WORK];
+    let work = lent(&mut work, a.work);
     match cancel::residual_check(case.iq, a.fs, &case.given(), work) {
         Err(no) => refused(a, no, work, work, work),
         Ok(r) => done(figured(case, &of_residual(r))),
@@ -104,18 +139,20 @@ pub fn residual(case: Case, lent: Lent) -> Answered {
 }
 
 // As residual, of another call with other figures: one function for both would take two closures.
-pub fn evidence(case: Case, lent: Lent) -> Answered {
+#[inline(never)]
+pub fn evidence(body: &[u8], kept: &Kept) -> Answered {
+    let case = Case::new(body, kept);
     let a = case.asked;
-    let work = lent.work;
+    let mut work = [0.0; WORK];
+    let work = lent(&mut work, a.work);
     match cancel::second_carrier_evidence(case.iq, a.fs, &case.given(), work) {
         Err(no) => refused(a, no, work, work, work),
         Ok(e) => done(figured(case, &of_evidence(e))),
     }
 }
 
-// It refuses nothing.
-pub fn classify(case: Case) -> Answered {
-    let body = case.body;
+// It refuses nothing, and its body is one of its own.
+pub fn classify(body: &[u8]) -> Answered {
     let e = SecondCarrierEvidence {
         gap_blocks: long(body, 0) as usize,
         hot_fraction: double(body, 2),
@@ -126,9 +163,13 @@ pub fn classify(case: Case) -> Answered {
     done(same_figures(&answer, figures_from(body, CLASSIFY_ANSWER)))
 }
 
-pub fn subtract(case: Case, lent: Lent) -> Answered {
+#[inline(never)]
+pub fn subtract(body: &[u8], kept: &Kept) -> Answered {
+    let case = Case::new(body, kept);
     let a = case.asked;
-    let buf = lent.buf;
+    let mut buf = [0.0; FLOATS];
+    copied(case.iq, &mut buf);
+    let buf = first_mut(&mut buf, a.floats);
     match cancel::subtract(buf, a.fs, &case.given()) {
         Err(no) => {
             let no = u64::from(no);
@@ -151,14 +192,19 @@ fn found(case: Case, f: RunFigures, buf: &[f32]) -> Found {
     }
 }
 
-pub fn run(case: Case, lent: Lent) -> Ran {
+#[inline(never)]
+pub fn run(body: &[u8], kept: &Kept) -> Ran {
+    let case = Case::new(body, kept);
     let a = case.asked;
-    let Lent {
-        buf,
-        elements,
-        fits,
-        work,
-    } = lent;
+    let mut buf = [0.0; FLOATS];
+    copied(case.iq, &mut buf);
+    let mut elements = [0.0; ELEMENTS];
+    let mut fits = [0.0; FITS];
+    let mut work = [0.0; WORK];
+    let buf = first_mut(&mut buf, a.floats);
+    let elements = lent(&mut elements, a.elements);
+    let fits = lent(&mut fits, a.fits);
+    let work = lent(&mut work, a.work);
     match cancel::run(buf, a.fs, a.hint_hz, elements, fits, work) {
         Err(no) => {
             let no = u64::from(no);

@@ -1,16 +1,12 @@
-// A stored case, and what its call is lent: as many numbers as the case names. Lists and work slice hold one number
-// before the call, so that it shows where a call wrote.
+// A stored case, and what its call is given of what is kept: as many numbers as the case names.
 ghost use Rattle.std.specs.Prelude.{◌≡◌, take};
 ghost use Rattle.replay.specs.Cases.{CaseCounted};
 
 use crate::calls;
 use crate::kept::Kept;
-use crate::sizes::{ELEMENTS, FITS, FLOATS, WORK};
 use cancel::GivenEstimate;
 use stored::answer::Answered;
 use stored::asked::{Asked, of_case};
-use stored::equal::LENT;
-use stored::kept::copied;
 use stored::kind::Call;
 use stored::tally::Tally;
 
@@ -28,7 +24,7 @@ pub struct Case<'a> {
 impl<'a> Case<'a> {
     ghost use Rattle.std.specs.Prelude.{◌≡◌, take};
 
-    fn new(body: &'a [u8], kept: &'a Kept) -> Case<'a> {
+    pub fn new(body: &'a [u8], kept: &'a Kept) -> Case<'a> {
         let asked = of_case(body);
         Case {
             asked,
@@ -68,15 +64,6 @@ impl<'a> Case<'a> {
     }
 }
 
-// What a call may write to. The buffer holds the recording.
-#[derive(Drop)]
-pub struct Lent<'a> {
-    pub buf: &'a mut [f32],
-    pub elements: &'a mut [f64],
-    pub fits: &'a mut [f64],
-    pub work: &'a mut [f64],
-}
-
 // The first n of a row, or all where it has fewer.
 fn first<T>(row: &[T], n: usize) -> &[T]
     ensures { result.now ≡ take n row.now }
@@ -85,39 +72,21 @@ fn first<T>(row: &[T], n: usize) -> &[T]
     &row[..end]
 }
 
-// The same of a row that may be written to.
-fn first_mut<T>(row: &mut [T], n: usize) -> &mut [T] {
-    let end = n.min(row.len());
-    &mut row[..end]
-}
-
 // Asks a call of a case and counts what came of it. What a run found is counted too, where it is not meant to differ.
 // A table in place of the match would name the eight calls as well, each by a closure.
 pub fn ask(call: Call, meant: bool, body: &[u8], kept: &Kept, tally: &mut Tally)
     ensures { CaseCounted call meant tally.old tally.new }
 {
-    let case = Case::new(body, kept);
-    let mut buf = [0.0; FLOATS];
-    copied(&kept.iq, &mut buf);
-    let mut elements = [LENT; ELEMENTS];
-    let mut fits = [LENT; FITS];
-    let mut work = [LENT; WORK];
-    let lent = Lent {
-        buf: first_mut(&mut buf, case.asked.floats),
-        elements: first_mut(&mut elements, case.asked.elements),
-        fits: first_mut(&mut fits, case.asked.fits),
-        work: first_mut(&mut work, case.asked.work),
-    };
     let answered = match call {
-        Call::FindElements => calls::find(case, lent),
-        Call::FitElements => calls::fit(case, lent),
-        Call::EstimateStrong => calls::estimate(case, lent),
-        Call::ResidualCheck => calls::residual(case, lent),
-        Call::SecondCarrierEvidence => calls::evidence(case, lent),
-        Call::Classify => calls::classify(case),
-        Call::Subtract => calls::subtract(case, lent),
+        Call::FindElements => calls::find(body, kept),
+        Call::FitElements => calls::fit(body, kept),
+        Call::EstimateStrong => calls::estimate(body, kept),
+        Call::ResidualCheck => calls::residual(body, kept),
+        Call::SecondCarrierEvidence => calls::evidence(body, kept),
+        Call::Classify => calls::classify(body),
+        Call::Subtract => calls::subtract(body, kept),
         Call::Run => {
-            let ran = calls::run(case, lent);
+            let ran = calls::run(body, kept);
             if !meant {
                 tally.count_run(ran);
             }
