@@ -6,7 +6,8 @@ use std::io;
 
 // One read of an input that goes into `room` bytes: how many bytes were there before it, how many it asked for, and how
 // many it answered to have brought, none where it failed. It asks for something, within the room, and brings no more
-// than it asked for. Its fields are open to this file alone, so that every `Read` is one that `Read::next` made.
+// than it asked for. Its fields are open to this file alone, so that every `Read` is one that `Read::next` made, or the
+// same in another room.
 #[derive(Clone, Copy)]
 pub struct Read {
     room: usize,

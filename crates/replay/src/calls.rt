@@ -1,10 +1,9 @@
 // Each call on a stored case: whether all that it answers and leaves is what is stored, and the number that refused it.
 // A call is lent as many numbers as its case names. Lists and work slice hold one number before the call, so that it
 // shows where a call wrote; the buffer holds the recording. Only the rows that a call is lent are made, and only what is
-// lent of them is filled. `inline(never)` keeps their room out of `ask`, which would go through all of it in each case:
-// a classify, which is lent none, would take six times as long.
+// lent of them is filled. `inline(never)` keeps their room out of `ask`, which would go through all of it in each case,
+// also of a classify, which is lent none.
 use crate::cases::Case;
-use crate::kept::Kept;
 use crate::sizes::{ELEMENTS, FITS, FLOATS, WORK};
 use cancel::{Refusal, RunFigures, SecondCarrierEvidence};
 use elements::ELEMENT;
@@ -73,8 +72,7 @@ fn left(case: Case, buf: &[f32]) -> bool {
 }
 
 #[inline(never)]
-pub fn find(body: &[u8], kept: &Kept) -> Answered {
-    let case = Case::new(body, kept);
+pub fn find(case: Case) -> Answered {
     let a = case.asked;
     let mut elements = [0.0; ELEMENTS];
     let mut work = [0.0; WORK];
@@ -87,8 +85,7 @@ pub fn find(body: &[u8], kept: &Kept) -> Answered {
 }
 
 #[inline(never)]
-pub fn fit(body: &[u8], kept: &Kept) -> Answered {
-    let case = Case::new(body, kept);
+pub fn fit(case: Case) -> Answered {
     let a = case.asked;
     let mut fits = [0.0; FITS];
     let mut work = [0.0; WORK];
@@ -109,8 +106,7 @@ pub fn fit(body: &[u8], kept: &Kept) -> Answered {
 }
 
 #[inline(never)]
-pub fn estimate(body: &[u8], kept: &Kept) -> Answered {
-    let case = Case::new(body, kept);
+pub fn estimate(case: Case) -> Answered {
     let a = case.asked;
     let mut elements = [0.0; ELEMENTS];
     let mut fits = [0.0; FITS];
@@ -127,8 +123,7 @@ pub fn estimate(body: &[u8], kept: &Kept) -> Answered {
 }
 
 #[inline(never)]
-pub fn residual(body: &[u8], kept: &Kept) -> Answered {
-    let case = Case::new(body, kept);
+pub fn residual(case: Case) -> Answered {
     let a = case.asked;
     let mut work = [0.0; WORK];
     let work = lent(&mut work, a.work);
@@ -140,8 +135,7 @@ pub fn residual(body: &[u8], kept: &Kept) -> Answered {
 
 // As residual, of another call with other figures: one function for both would take two closures.
 #[inline(never)]
-pub fn evidence(body: &[u8], kept: &Kept) -> Answered {
-    let case = Case::new(body, kept);
+pub fn evidence(case: Case) -> Answered {
     let a = case.asked;
     let mut work = [0.0; WORK];
     let work = lent(&mut work, a.work);
@@ -164,8 +158,7 @@ pub fn classify(body: &[u8]) -> Answered {
 }
 
 #[inline(never)]
-pub fn subtract(body: &[u8], kept: &Kept) -> Answered {
-    let case = Case::new(body, kept);
+pub fn subtract(case: Case) -> Answered {
     let a = case.asked;
     let mut buf = [0.0; FLOATS];
     copied(case.iq, &mut buf);
@@ -193,8 +186,7 @@ fn found(case: Case, f: RunFigures, buf: &[f32]) -> Found {
 }
 
 #[inline(never)]
-pub fn run(body: &[u8], kept: &Kept) -> Ran {
-    let case = Case::new(body, kept);
+pub fn run(case: Case) -> Ran {
     let a = case.asked;
     let mut buf = [0.0; FLOATS];
     copied(case.iq, &mut buf);

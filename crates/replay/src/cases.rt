@@ -24,7 +24,7 @@ pub struct Case<'a> {
 impl<'a> Case<'a> {
     ghost use Rattle.std.specs.Prelude.{◌≡◌, take};
 
-    pub fn new(body: &'a [u8], kept: &'a Kept) -> Case<'a> {
+    fn new(body: &'a [u8], kept: &'a Kept) -> Case<'a> {
         let asked = of_case(body);
         Case {
             asked,
@@ -78,15 +78,15 @@ pub fn ask(call: Call, meant: bool, body: &[u8], kept: &Kept, tally: &mut Tally)
     ensures { CaseCounted call meant tally.old tally.new }
 {
     let answered = match call {
-        Call::FindElements => calls::find(body, kept),
-        Call::FitElements => calls::fit(body, kept),
-        Call::EstimateStrong => calls::estimate(body, kept),
-        Call::ResidualCheck => calls::residual(body, kept),
-        Call::SecondCarrierEvidence => calls::evidence(body, kept),
+        Call::FindElements => calls::find(Case::new(body, kept)),
+        Call::FitElements => calls::fit(Case::new(body, kept)),
+        Call::EstimateStrong => calls::estimate(Case::new(body, kept)),
+        Call::ResidualCheck => calls::residual(Case::new(body, kept)),
+        Call::SecondCarrierEvidence => calls::evidence(Case::new(body, kept)),
         Call::Classify => calls::classify(body),
-        Call::Subtract => calls::subtract(body, kept),
+        Call::Subtract => calls::subtract(Case::new(body, kept)),
         Call::Run => {
-            let ran = calls::run(body, kept);
+            let ran = calls::run(Case::new(body, kept));
             if !meant {
                 tally.count_run(ran);
             }

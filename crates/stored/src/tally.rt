@@ -15,10 +15,15 @@ pub const NUMBERS: usize = 20;
 
 pub const HYPOTHESES: usize = 4;
 
-// Where rows and counts begin, one behind the other as in `counts`: EQUAL in a group, the others among all counts.
-pub const EQUAL: usize = CALLS;
+// Where rows and counts begin, one behind the other as in `counts`: ASKED and EQUAL in a group, the others among all
+// counts, of which there are PLACES.
+pub const ASKED: usize = 0;
 
-pub const MEANT: usize = EQUAL + CALLS;
+pub const EQUAL: usize = ASKED + CALLS;
+
+pub const STORED: usize = 0;
+
+pub const MEANT: usize = STORED + EQUAL + CALLS;
 
 pub const REFUSED: usize = MEANT + EQUAL + CALLS;
 
@@ -32,7 +37,7 @@ pub const ENDS: usize = CHANGED + 1;
 
 pub const BROKEN: usize = ENDS + 1;
 
-const PLACES: usize = BROKEN + 1;
+pub const PLACES: usize = BROKEN + 1;
 
 // A group of cases, call by call: how many were asked, and how many of them are equal. Two rows, and not one of pairs:
 // so `counts` has them one behind the other.
