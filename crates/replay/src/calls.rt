@@ -1,9 +1,10 @@
 // Each call on a stored case: whether all that it answers and leaves is what is stored, and the number that refused it.
 // A call is lent as many numbers as its case names. Lists and work slice hold one number before the call, so that it
 // shows where a call wrote; the buffer holds the recording. Only the rows that a call is lent are made, and only what is
-// lent of them is filled. `inline(never)` keeps their room out of `ask`, which would go through all of it in each case,
-// also of a classify, which is lent none.
+// lent of them is filled. `inline(never)` keeps their room, and that of a `Case`, out of `ask`, which would go through all
+// of it for each record, also for a classify, which is lent none.
 use crate::cases::Case;
+use crate::kept::Kept;
 use crate::sizes::{ELEMENTS, FITS, FLOATS, WORK};
 use cancel::{Refusal, RunFigures, SecondCarrierEvidence};
 use elements::ELEMENT;
@@ -72,7 +73,8 @@ fn left(case: Case, buf: &[f32]) -> bool {
 }
 
 #[inline(never)]
-pub fn find(case: Case) -> Answered {
+pub fn find(body: &[u8], kept: &Kept) -> Answered {
+    let case = Case::new(body, kept);
     let a = case.asked;
     let mut elements = [0.0; ELEMENTS];
     let mut work = [0.0; WORK];
@@ -85,7 +87,8 @@ pub fn find(case: Case) -> Answered {
 }
 
 #[inline(never)]
-pub fn fit(case: Case) -> Answered {
+pub fn fit(body: &[u8], kept: &Kept) -> Answered {
+    let case = Case::new(body, kept);
     let a = case.asked;
     let mut fits = [0.0; FITS];
     let mut work = [0.0; WORK];
@@ -106,7 +109,8 @@ pub fn fit(case: Case) -> Answered {
 }
 
 #[inline(never)]
-pub fn estimate(case: Case) -> Answered {
+pub fn estimate(body: &[u8], kept: &Kept) -> Answered {
+    let case = Case::new(body, kept);
     let a = case.asked;
     let mut elements = [0.0; ELEMENTS];
     let mut fits = [0.0; FITS];
@@ -123,7 +127,8 @@ pub fn estimate(case: Case) -> Answered {
 }
 
 #[inline(never)]
-pub fn residual(case: Case) -> Answered {
+pub fn residual(body: &[u8], kept: &Kept) -> Answered {
+    let case = Case::new(body, kept);
     let a = case.asked;
     let mut work = [0.0; WORK];
     let work = lent(&mut work, a.work);
@@ -135,7 +140,8 @@ pub fn residual(case: Case) -> Answered {
 
 // As residual, of another call with other figures: one function for both would take two closures.
 #[inline(never)]
-pub fn evidence(case: Case) -> Answered {
+pub fn evidence(body: &[u8], kept: &Kept) -> Answered {
+    let case = Case::new(body, kept);
     let a = case.asked;
     let mut work = [0.0; WORK];
     let work = lent(&mut work, a.work);
@@ -158,7 +164,8 @@ pub fn classify(body: &[u8]) -> Answered {
 }
 
 #[inline(never)]
-pub fn subtract(case: Case) -> Answered {
+pub fn subtract(body: &[u8], kept: &Kept) -> Answered {
+    let case = Case::new(body, kept);
     let a = case.asked;
     let mut buf = [0.0; FLOATS];
     copied(case.iq, &mut buf);
@@ -186,7 +193,8 @@ fn found(case: Case, f: RunFigures, buf: &[f32]) -> Found {
 }
 
 #[inline(never)]
-pub fn run(case: Case) -> Ran {
+pub fn run(body: &[u8], kept: &Kept) -> Ran {
+    let case = Case::new(body, kept);
     let a = case.asked;
     let mut buf = [0.0; FLOATS];
     copied(case.iq, &mut buf);

@@ -24,7 +24,12 @@ pub struct Case<'a> {
 impl<'a> Case<'a> {
     ghost use Rattle.std.specs.Prelude.{◌≡◌, take};
 
-    fn new(body: &'a [u8], kept: &'a Kept) -> Case<'a> {
+    // A case as its body asks it, of what is kept: the recording as far as it is lent, all else whole.
+    pub fn new(body: &'a [u8], kept: &'a Kept) -> Case<'a>
+        ensures { (result.body.now ≡ body.now) × (result.iq.now ≡ take result.asked.floats kept.now.iq)
+            × (result.left.now ≡ kept.now.left) × (result.stored_elements.now ≡ kept.now.elements)
+            × (result.stored_fits.now ≡ kept.now.fits) }
+    {
         let asked = of_case(body);
         Case {
             asked,
@@ -78,15 +83,15 @@ pub fn ask(call: Call, meant: bool, body: &[u8], kept: &Kept, tally: &mut Tally)
     ensures { CaseCounted call meant tally.old tally.new }
 {
     let answered = match call {
-        Call::FindElements => calls::find(Case::new(body, kept)),
-        Call::FitElements => calls::fit(Case::new(body, kept)),
-        Call::EstimateStrong => calls::estimate(Case::new(body, kept)),
-        Call::ResidualCheck => calls::residual(Case::new(body, kept)),
-        Call::SecondCarrierEvidence => calls::evidence(Case::new(body, kept)),
+        Call::FindElements => calls::find(body, kept),
+        Call::FitElements => calls::fit(body, kept),
+        Call::EstimateStrong => calls::estimate(body, kept),
+        Call::ResidualCheck => calls::residual(body, kept),
+        Call::SecondCarrierEvidence => calls::evidence(body, kept),
         Call::Classify => calls::classify(body),
-        Call::Subtract => calls::subtract(Case::new(body, kept)),
+        Call::Subtract => calls::subtract(body, kept),
         Call::Run => {
-            let ran = calls::run(Case::new(body, kept));
+            let ran = calls::run(body, kept);
             if !meant {
                 tally.count_run(ran);
             }
