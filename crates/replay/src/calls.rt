@@ -1,8 +1,8 @@
-// Each call on a stored case: whether all that it answers and leaves is what is stored, and the number that refused it.
-// A call is lent as many numbers as its case names. Lists and work slice hold one number before the call, so that it
-// shows where a call wrote; the buffer holds the recording. Only the rows that a call is lent are made, and only what is
-// lent of them is filled. `inline(never)` keeps their room, and that of a `Case`, out of `ask`, which would go through all
-// of it for each record, also for a classify, which is lent none.
+// Each call on a stored case: whether all that it answers and leaves is what is stored, and the number that refused
+// it. A call is lent as many numbers as its case names. Lists and work slice hold one number before the call, so that
+// it shows where a call wrote; the buffer holds the recording. Only the rows that a call is lent are made, and only
+// what is lent of them is filled. `inline(never)` keeps their room, and that of a `Case`, out of `ask`, which would go
+// through all of it for each record, also for a classify, which is lent none.
 use crate::cases::Case;
 use crate::kept::Kept;
 use crate::sizes::{ELEMENTS, FITS, FLOATS, WORK};
